@@ -1,0 +1,4 @@
+pub mod Chunks
+pub mod Edits
+pub mod Misfits
+pub mod Totals

@@ -1,0 +1,11 @@
+pub mod Sums
+pub mod Lists
+pub mod Draws
+pub mod Offsets
+pub mod Steps
+pub mod Ring
+pub mod Decay
+pub mod Sides
+pub mod Links
+pub mod Ours
+pub mod Places

@@ -1,0 +1,4 @@
+pub mod Counting
+pub mod Ring
+pub mod Table
+pub mod Statements

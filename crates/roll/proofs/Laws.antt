@@ -105,7 +105,7 @@ good-negate left due bs (got (p ∷ ps)) g =
     record { bytes = ap (λ l. 3 ∷ l) (g .bytes); many = g .many; few = omega (arith, g .few); fields = g .fields }
 good-negate left due bs (refused n k) g = tt
 
--- what is said of a byte's value holds of the byte
+-- what holds at a byte's value holds at the byte
 at-byte : (left due : ℕ) (bs : List ℕ) (r : Reading) (b n : ℕ) → eqb b n ≡ true → Good left due (n ∷ bs) r → Good left due (b ∷ bs) r
 at-byte left due bs r b n e g = subst (λ x. Good left due (x ∷ bs) r) (sym (eqb-true b n e)) g
 

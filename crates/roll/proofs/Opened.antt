@@ -91,7 +91,7 @@ inverted (below f k) rest bytes e h = let o = opened (below f k) rest bytes e in
 inverted (both p q) rest bytes e h = let o = opened (both p q) rest bytes e in absurd (omega arith)
 inverted (negated p) rest bytes e h = record { inner = p; is = refl; tail = opened (negated p) rest bytes e .1 }
 
--- and its verdict is the opposite of what is said of the bytes after its first
+-- and its verdict is the opposite of that on the bytes after its first
 pub inverts : (t : Predicate) (rest bytes : List ℕ) (row : Row) (v w : Bool) (left mid : List ℕ) → Inverted t rest bytes → Evaluated (after 1 bytes) row w mid → v ≡ not w → left ≡ mid → (v ≡ passes t row) × (left ≡ rest)
 unfolding passes
 inverts t rest bytes row v w left mid p inner verdict past =

@@ -45,7 +45,7 @@ pub record Due (left due l d : ℕ) (bytes : List ℕ) : Type 0 where
   pub bytes-left : 0 < length bytes
 
 module _ (end left due l d : ℕ) where
-  -- a comparison, from what was said of its field and its number
+  -- a comparison, from what its field and its number give
   pub step-below : (bytes rest : List ℕ) → Due left due l d bytes → getD bytes 0 0 ≡ 1 → rest ≡ past (after 1 bytes) → ((x : Reading) → bare (compare-with end (after 1 bytes) x) ≡ bare x) → bare (parse end l d rest) ≡ bare (parse end left due bytes)
   step-below [] rest h one e b = absurd (omega (arith, h .bytes-left))
   step-below (b ∷ bs) rest h one e told =

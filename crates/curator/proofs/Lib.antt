@@ -1,0 +1,16 @@
+pub mod Budgets
+pub mod Following
+pub mod Lines
+pub mod Machine
+pub mod Ours
+pub mod Outcomes
+pub mod Private
+pub mod Reading
+pub mod Refusals
+pub mod Replies
+pub mod Runs
+pub mod Same
+pub mod Tapes
+pub mod Turns
+pub mod Scripts
+pub mod Words

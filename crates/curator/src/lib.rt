@@ -3,7 +3,9 @@ mod command;
 mod curator;
 mod laws;
 mod outcome;
-mod run;
+mod running;
+#[cfg(test)]
+mod tests;
 
 pub use command::Command;
 pub use curator::Curator;
@@ -15,4 +17,5 @@ pub use laws::own_words_stands;
 pub use laws::private_stands;
 pub use outcome::Answer;
 pub use outcome::Outcome;
-pub use run::Journal;
+pub use running::Journal;
+pub use running::run;

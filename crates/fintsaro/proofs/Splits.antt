@@ -9,7 +9,7 @@ use lib.ListN.{length, getD, take, drop, length-append}
 use Rattle.std.proofs.shelf.Lists.{take-at, drop-at, getD-append-left}
 use Rattle.std.proofs.shelf.Tests.{and-from, and-left, and-right, le-leb, lt-leb}
 use Rattle.std.proofs.shelf.Ways.{tells}
-use Rattle.fintsaro.specs.Openings.{places-in, roll-in, after-roll, budgets-in, lines-in, whole}
+use Rattle.fintsaro.specs.Openings.{places-in, roll-bytes, after-roll, budget-bytes, line-bytes, whole}
 
 -- fewer than two bytes
 pub no-size : (file : List ℕ) → length file < 2 → whole file ≡ false
@@ -38,7 +38,7 @@ module _ (file size rest : List ℕ) (is : file ≡ size ++ rest) (two : length 
     whole-roll : length roll ≡ 16 * places-in file
     whole-roll = long ∙ ap (λ n. 16 * n) places-is
 
-    pub roll-is : roll-in file ≡ roll
+    pub roll-is : roll-bytes file ≡ roll
     roll-is = ap (take (16 * places-in file)) (after-size ∙ rows) ∙ take-at roll more _ whole-roll
 
     pub after-is : after-roll file ≡ more
@@ -72,8 +72,8 @@ module _ (file size rest : List ℕ) (is : file ≡ size ++ rest) (two : length 
           let budgets-there : getD (after-roll file) 0 0 ≤ length (drop 1 (after-roll file)) = omega (arith, ap length after-count, count-is) in
           and-from _ _ (le-leb _ _ size-there) (and-from _ _ (le-leb _ _ rows-there) (and-from _ _ (le-leb _ _ one-there) (le-leb _ _ budgets-there)))
 
-      pub budgets-is : budgets-in file ≡ take analysts rest-of
+      pub budgets-is : budget-bytes file ≡ take analysts rest-of
       budgets-is = ap (λ n. take n (drop 1 (after-roll file))) count-is ∙ ap (take analysts) after-count
 
-      pub lines-is : lines-in file ≡ drop analysts rest-of
+      pub lines-is : line-bytes file ≡ drop analysts rest-of
       lines-is = ap (λ n. drop n (drop 1 (after-roll file))) count-is ∙ ap (drop analysts) after-count

@@ -14,20 +14,20 @@ abbrev pub places-in : List ℕ → ℕ
 places-in file = getD file 0 0 + 256 * getD file 1 0
 
 -- the bytes of the roll
-abbrev pub roll-in : List ℕ → List ℕ
-roll-in file = take (16 * places-in file) (drop 2 file)
+abbrev pub roll-bytes : List ℕ → List ℕ
+roll-bytes file = take (16 * places-in file) (drop 2 file)
 
 -- what follows the roll: the number of analysts, their budgets, and the lines
 abbrev pub after-roll : List ℕ → List ℕ
 after-roll file = drop (16 * places-in file) (drop 2 file)
 
 -- the bytes of the budgets
-abbrev pub budgets-in : List ℕ → List ℕ
-budgets-in file = take (getD (after-roll file) 0 0) (drop 1 (after-roll file))
+abbrev pub budget-bytes : List ℕ → List ℕ
+budget-bytes file = take (getD (after-roll file) 0 0) (drop 1 (after-roll file))
 
 -- the bytes of the lines
-abbrev pub lines-in : List ℕ → List ℕ
-lines-in file = drop (getD (after-roll file) 0 0) (drop 1 (after-roll file))
+abbrev pub line-bytes : List ℕ → List ℕ
+line-bytes file = drop (getD (after-roll file) 0 0) (drop 1 (after-roll file))
 
 -- the file does not end inside its opening
 abbrev pub whole : List ℕ → Bool
@@ -43,4 +43,4 @@ first-of (Some a) b = Some a
 -- the number and the place of the refusal of a run file's opening, if it is refused, where at most so many places are served
 abbrev pub desk-refusal : ℕ → List ℕ → Option (ℕ × ℕ)
 desk-refusal most file =
-    cond (whole file && leb (places-in file) most) (first-of (roll-refusal (places-in file) (roll-in file)) (opening-refusal (budgets-in file))) (Some (1, 0))
+    cond (whole file && leb (places-in file) most) (first-of (roll-refusal (places-in file) (roll-bytes file)) (opening-refusal (budget-bytes file))) (Some (1, 0))

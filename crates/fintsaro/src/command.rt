@@ -6,20 +6,26 @@ ghost use Rattle.std.specs.declared.option.Option.the-variants.{Some, None};
 use roll::MOST_PLACES;
 
 // How many places are served where nothing else is said.
-pub const USUAL_PLACES: usize = 2_048;
+const USUAL_PLACES: usize = 2_048;
 
-// A run of the desk: its two files, and how many places it serves at most.
+// How a run is served: at most so many places, and whether it is told how far off the numbers may be.
 #[derive(Clone, Copy, Debug)]
-pub struct Run<'a> {
+pub struct Options {
+    pub places: usize,
+    pub errors: bool,
+}
+
+// A run of the desk from two files.
+#[derive(Clone, Copy, Debug)]
+pub struct Files<'a> {
     pub run: &'a str,
     pub tape: &'a str,
-    pub places: usize,
 }
 
 #[derive(Clone, Copy, Debug)]
 pub enum Command<'a> {
     Usage,
-    Serve(Run<'a>),
+    Serve(Files<'a>, Options),
 }
 
 // A number of places that the desk can serve.
@@ -40,21 +46,37 @@ fn places_of(word: &str) -> Option<usize> {
     served(places)
 }
 
+// The options that the words begin with, and the words after them.
+fn options_of<'a, 'b>(words: &'b [&'a str]) -> Option<(Options, &'b [&'a str])> {
+    let mut options = Options {
+        places: USUAL_PLACES,
+        errors: false,
+    };
+    let mut rest = words;
+    for _ in 0..words.len() {
+        match rest {
+            ["--places", number, after @ ..] => {
+                options.places = places_of(number)?;
+                rest = after;
+            }
+            ["--errors", after @ ..] => {
+                options.errors = true;
+                rest = after;
+            }
+            _ => break,
+        }
+    }
+    Some((options, rest))
+}
+
 // The command that the words after the program's name spell, if they spell one.
 pub fn command_of<'a>(words: &[&'a str]) -> Option<Command<'a>> {
-    match words {
-        [] | ["--help"] => Some(Command::Usage),
-        ["--places", number, run, tape] => {
-            let Some(places) = places_of(number) else {
-                return None;
-            };
-            Some(Command::Serve(Run { run, tape, places }))
-        }
-        [run, tape] => Some(Command::Serve(Run {
-            run,
-            tape,
-            places: USUAL_PLACES,
-        })),
-        _ => None,
+    if let [] | ["--help"] = words {
+        return Some(Command::Usage);
     }
+    let (options, rest) = options_of(words)?;
+    let [run, tape] = rest else {
+        return None;
+    };
+    Some(Command::Serve(Files { run, tape }, options))
 }

@@ -1,18 +1,26 @@
 // The counting desk: a run from two files.
 mod command;
+mod printer;
 mod run_file;
 
+use bulletin::RefusedOpening;
+use bulletin::RefusedOpeningDisplay;
 use command::Command;
-use command::Run;
+use command::Files;
+use command::Options;
 use command::command_of;
-use run_file::open;
+use printer::Printer;
+use printer::PrinterJournal;
+use run_file::places_in;
+use run_file::serve_file;
 use std::env;
 use std::error::AnyError;
 use std::fs;
 
-const USAGE: &str = "usage: fintsaro [--places N] RUN TAPE
+const USAGE: &str = "usage: fintsaro [--places N] [--errors] RUN TAPE
 RUN has the opening of a desk and its lines, TAPE its words of chance.
---places N serves up to N places, 1 to 32768; without it 2048.
+--places N  serve up to N places, 1 to 32768; without it 2048
+--errors    say under each answer how far off its numbers may be
 ";
 
 // The bytes of a file; where it cannot be read, that is told.
@@ -26,16 +34,22 @@ fn read_file(rt: &LibcRuntime, path: &str) -> Result<Vec<u8>, AnyError> {
     }
 }
 
-// Opens the desk of a run; where it is refused, that is printed.
-fn serve(rt: &LibcRuntime, run: Run) -> Result<(), AnyError> {
-    let mut file = read_file(rt, run.run)?;
-    let _tape = read_file(rt, run.tape)?;
-    if let Err(refusal) = open(&mut file[..], run.places) {
-        let number = refusal.number();
-        let place = refusal.place();
-        println!(rt, "desk refused {number} at {place}")?;
+// Runs the desk of two files, and prints what everybody learns.
+fn serve(rt: &LibcRuntime, files: Files, options: Options) -> Result<(), AnyError> {
+    let mut file = read_file(rt, files.run)?;
+    let tape = read_file(rt, files.tape)?;
+    let places = places_in(file.as_slice()).unwrap_or(0);
+    let mut printer = Printer {
+        rt,
+        places,
+        errors: options.errors,
+        printed: Ok(()),
+    };
+    match serve_file(&mut file[..], options.places, tape.as_slice(), &mut printer) {
+        Ok(_) => {}
+        Err(refusal) => rt.println(RefusedOpening(refusal))?,
     }
-    Ok(())
+    Ok(printer.printed?)
 }
 
 fn main(rt: LibcRuntime) -> Result<(), AnyError> {
@@ -45,7 +59,7 @@ fn main(rt: LibcRuntime) -> Result<(), AnyError> {
         words.push(word.as_str())?;
     }
     match command_of(words.as_slice()) {
-        Some(Command::Serve(run)) => serve(&rt, run),
+        Some(Command::Serve(files, options)) => serve(&rt, files, options),
         Some(Command::Usage) => Ok(rt.print(USAGE)?),
         None => {
             eprint!(rt, "{USAGE}")?;

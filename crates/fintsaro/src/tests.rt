@@ -1,10 +1,29 @@
 // Openings of run files, whole and cut.
 use crate::command::served;
-use crate::run_file::open;
+use crate::run_file::serve_file;
+use curator::Journal;
+use curator::Outcome;
 use roll::Refusal;
 use roll::RefusalDebug;
 use roll::RefusalPartialEq;
 use std::test::*;
+
+// A journal that counts what it is told.
+struct Counter(u32);
+
+impl Journal for Counter as CounterJournal {
+    ghost notes = { λ _ _ _. Unit {0} };
+
+    fn note(&mut self, _: &Outcome) {
+        self.0 = self.0.saturating_add(1);
+    }
+}
+
+// What the opening of a run file is refused with, if at most so many places are served.
+fn refusal(file: &mut [u8], most: usize) -> Option<Refusal> {
+    let mut told = Counter(0);
+    serve_file(file, most, &[], &mut told).err()
+}
 
 // Two places and two analysts with 3 units and 1, and then a line of one byte.
 const FILE: [u8; 40] = [
@@ -53,18 +72,18 @@ const FILE: [u8; 40] = [
 #[test]
 fn openings() -> Result<(), Fail> {
     let mut file = FILE;
-    check_eq(open(&mut file, 2).err(), None)?;
-    check_eq(open(&mut file, 1).err(), Some(Refusal::RollSize))?;
+    check_eq(refusal(&mut file, 2), None)?;
+    check_eq(refusal(&mut file, 1), Some(Refusal::RollSize))?;
     file[18] = 2;
-    check_eq(open(&mut file, 2).err(), Some(Refusal::RowStatus(1)))?;
+    check_eq(refusal(&mut file, 2), Some(Refusal::RowStatus(1)))?;
     file[36] = 18;
-    check_eq(open(&mut file, 2).err(), Some(Refusal::RowStatus(1)))?;
+    check_eq(refusal(&mut file, 2), Some(Refusal::RowStatus(1)))?;
     file[18] = 0;
-    check_eq(open(&mut file, 2).err(), Some(Refusal::BudgetSum(1)))?;
+    check_eq(refusal(&mut file, 2), Some(Refusal::BudgetSum(1)))?;
     file[34] = 0;
-    check_eq(open(&mut file, 2).err(), Some(Refusal::AnalystCount))?;
+    check_eq(refusal(&mut file, 2), Some(Refusal::AnalystCount))?;
     file[0] = 0;
-    check_eq(open(&mut file, 2).err(), Some(Refusal::RollSize))
+    check_eq(refusal(&mut file, 2), Some(Refusal::RollSize))
 }
 
 // A file that ends inside its opening is refused, wherever it ends.
@@ -72,12 +91,12 @@ fn openings() -> Result<(), Fail> {
 fn cut_openings() -> Result<(), Fail> {
     for end in 0..40usize {
         let mut file = FILE;
-        let refusal = if end < 37 {
+        let expected = if end < 37 {
             Some(Refusal::RollSize)
         } else {
             None
         };
-        check_eq(open(&mut file[0..end], 2).err(), refusal)?;
+        check_eq(refusal(&mut file[0..end], 2), expected)?;
     }
     Ok(())
 }

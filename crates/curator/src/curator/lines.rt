@@ -19,7 +19,6 @@ use super::Curator;
 use crate::Answer;
 use crate::Command;
 use crate::Outcome;
-use budget::Budgets;
 use noise::Page;
 use noise::release_all;
 use query::Asked;
@@ -39,21 +38,6 @@ fn edit(roll: &mut Roll, place: usize, row: &Row) -> Outcome
 }
 
 impl<'t> Curator<'t> {
-    // A curator with these budgets and a tape that nothing was taken of.
-    pub fn open(budgets: Budgets, tape: &'t [u8]) -> Curator<'t>
-        ensures budgets { λ r. ⌜ r .budgets ≡ budgets ⌝ }
-        ensures tape { λ r. ⌜ now (r .tape) ≡ now (tape .entry) ⌝ }
-    {
-        Curator { budgets, tape }
-    }
-
-    // The budgets as they are now.
-    pub fn budgets(&self) -> Budgets
-        ensures { λ r. ⌜ r ≡ now (self .entry) .budgets ⌝ }
-    {
-        self.budgets
-    }
-
     // Takes the next page for a query and charges its analyst, or refuses it. No row has a part in this.
     fn admit(&mut self, asked: &Asked) -> Result<&'t Page, Refusal>
         ensures verdict { λ r. ⌜ refusal-of r ≡ verdict our-dial (length (words-of (now (now (self .entry) .tape)))) (budgets-of (now (self .entry) .budgets)) (now (asked .entry) .analyst) (query-of (now (asked .entry) .query)) ⌝ }

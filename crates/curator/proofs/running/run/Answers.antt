@@ -14,7 +14,7 @@ use Rattle.curator.proofs.Budgets.{bounded}
 use Rattle.curator.proofs.Following.{followed-none, followed-more, followed-all, state-all}
 use Rattle.curator.proofs.Ours.{private}
 use Rattle.curator.proofs.Scripts.{after-shorter}
-use Rattle.curator.proofs.run.run.Needs as need
+use Rattle.curator.proofs.running.run.Needs as need
 
 pub loop-line-holds : need.loop-line-holds
 loop-line-holds g c = followed-none (g .J·Journal .notes) _ _ (c .args .lines .now)

@@ -3,7 +3,7 @@ use Rattle.roll.specs.Rows.{rows-of}
 use Rattle.curator.specs.Scripts.{lines-in}
 use Rattle.curator.specs.Served.{state-by}
 use Rattle.curator.proofs.Following.{Followed}
-use Rattle.curator.proofs.run.run.Given as given
+use Rattle.curator.proofs.running.run.Given as given
 
 -- the lines so far are followed
 abbrev pub Inv-loop-line : given.InvT-loop-line

@@ -4,7 +4,7 @@ use borrow.Author.Needs.{needs}
 use borrow.Author.Tests.{ltb-false}
 use lib.ListN.{length}
 use Rattle.curator.proofs.Scripts.{single-line, cut-line}
-use Rattle.curator.proofs.run.split_line.Needs as need
+use Rattle.curator.proofs.running.split_line.Needs as need
 
 pub returns-in-len1 : need.returns-in-len1
 returns-in-len1 c =

@@ -8,19 +8,19 @@ use Rattle.weights.specs.Ring.{our-weights}
 use Rattle.bulletin.specs.declared.tail.Share.{Share}
 use Rattle.bulletin.specs.declared.tail.Tail.{Tail}
 
--- n out of all in tenths of a per cent: the nearest whole number, halves up
-abbrev pub tenths-of : ℕ → ℕ → ℕ
-tenths-of all n = (2000 * n + all) / (2 * all)
+-- n out of all in hundredths of a per cent: the nearest whole number, halves up
+abbrev pub hundredths-of : ℕ → ℕ → ℕ
+hundredths-of all n = (20000 * n + all) / (2 * all)
 
 -- the share of an entry's draws in all draws of our ring
 abbrev pub share-of : Tail → Share
-share-of t = record { tenths = tenths-of (total our-weights) (t .draws); draws = t .draws; all = total our-weights }
+share-of t = record { hundredths = hundredths-of (total our-weights) (t .draws); draws = t .draws; all = total our-weights }
 
--- a share: per cent with one decimal place, and the two numbers behind it
+-- a share: per cent with two decimal places, and the two numbers behind it
 abbrev pub share-text : Share → List ℕ
 share-text s =
-    decimal (s .tenths / 10) ++ (codes "." ++ (decimal (s .tenths % 10) ++ (codes " % of the draws ("
-    ++ (decimal (s .draws) ++ (codes " of " ++ (decimal (s .all) ++ codes ")"))))))
+    decimal (s .hundredths / 100) ++ (codes "." ++ (decimal (s .hundredths / 10 % 10) ++ (decimal (s .hundredths % 10) ++ (codes " % of the draws ("
+    ++ (decimal (s .draws) ++ (codes " of " ++ (decimal (s .all) ++ codes ")")))))))
 
 -- the line for an entry of the table: its places, and the share of its draws
 abbrev pub tail-text : Tail → List ℕ

@@ -8,7 +8,7 @@ use std::fmt;
 // Numbers released from here on, up to the last place of the ring, stand below nothing.
 const BELOW_NOTHING: u32 = 49_152;
 
-// None, or a number that a roll of the places at hand can have.
+// None, or a number that is at most the places of the roll.
 #[derive(Clone, Copy, Debug, PartialEq, Eq)]
 pub enum Printed {
     None,

@@ -65,24 +65,24 @@ fn all_draws() -> u64
     TOTAL
 }
 
-// So many draws of all draws, with the share that they are in tenths of a per cent.
+// So many draws of all draws, with the share that they are in hundredths of a per cent.
 #[derive(Clone, Copy)]
 pub struct Share {
-    pub tenths: u32,
+    pub hundredths: u64,
     pub draws: u64,
     pub all: u64,
 }
 
 impl Tail {
-    // The share of the draws, to the nearest tenth of a per cent, halves up.
+    // The share of the draws, to the nearest hundredth of a per cent, halves up.
     pub fn share(&self) -> Share
         ensures { λ r. ⌜ r ≡ share-of (now (self .entry)) ⌝ }
     {
         let draws = self.draws;
         let all = all_draws();
-        let tenths = (2_000 * draws as u128 + all as u128) / (2 * all as u128);
+        let hundredths = (20_000 * draws as u128 + all as u128) / (2 * all as u128);
         Share {
-            tenths: tenths as u32,
+            hundredths: hundredths as u64,
             draws,
             all,
         }
@@ -93,11 +93,12 @@ pub impl fmt::Display for Share as ShareDisplay {
     ghost shown = { λ s. Some (share-text s) };
 
     fn fmt<W: fmt::Write>(&self, f: &mut fmt::Formatter<W>) -> fmt::Result {
-        let whole = self.tenths / 10;
-        let tenth = self.tenths % 10;
+        let whole = self.hundredths / 100;
+        let tenth = self.hundredths / 10 % 10;
+        let hundredth = self.hundredths % 10;
         let draws = self.draws;
         let all = self.all;
-        write!(f, "{whole}.{tenth} % of the draws ({draws} of {all})")
+        write!(f, "{whole}.{tenth}{hundredth} % of the draws ({draws} of {all})")
     }
 }
 

@@ -12,6 +12,8 @@ use crate::Tail;
 use crate::TailDisplay;
 use crate::tails;
 use roll::Refusal;
+use std::alloc::Global;
+use std::fmt::Display;
 use std::test::*;
 
 // Rolls of 5 and of 32,768 places.
@@ -40,6 +42,11 @@ fn printed_forms() -> Result<(), Fail> {
     check_eq(Printed::of(65_536, 32_768), Printed::None)
 }
 
+// Whether a value is written as this text.
+fn shows<D: Display>(heap: Global, value: &D, text: &str) -> Result<(), Fail> {
+    check(value.to_string(heap)?.as_str() == text)
+}
+
 #[test]
 fn lines_of_a_run(rt: LibcRuntime) -> Result<(), Fail> {
     let heap = rt.alloc();
@@ -49,42 +56,42 @@ fn lines_of_a_run(rt: LibcRuntime) -> Result<(), Fail> {
         left: 0,
         places: 5,
     };
-    check(answer.to_string(heap)?.as_str() == "0 says 1 2 0 left 0")?;
+    shows(heap, &answer, "0 says 1 2 0 left 0")?;
     let answer = Answer {
         analyst: 31,
         released: &[65_536],
         left: 20,
         places: 5,
     };
-    check(answer.to_string(heap)?.as_str() == "31 says none left 20")?;
+    shows(heap, &answer, "31 says none left 20")?;
     let refused = RefusedLine(Refusal::BudgetTooLow);
-    check(refused.to_string(heap)?.as_str() == "refused 19 at 1")?;
+    shows(heap, &refused, "refused 19 at 1")?;
     let refused = RefusedOpening(Refusal::RowStatus(7));
-    check(refused.to_string(heap)?.as_str() == "desk refused 2 at 7")
+    shows(heap, &refused, "desk refused 2 at 7")
 }
 
-// The shares worked out by hand, and the first count of draws that is rounded up to a tenth of a per cent.
+// The shares worked out by hand, and the first count of draws that is rounded up to a hundredth of a per cent.
 #[test]
 fn how_far_off(rt: LibcRuntime) -> Result<(), Fail> {
     let heap = rt.alloc();
     let lines = [
-        "more than 5 off: 29.1 % of the draws (2882304023104 of 9895604911578)",
-        "more than 10 off: 9.5 % of the draws (944473558142 of 9895604911578)",
-        "more than 20 off: 1.0 % of the draws (101412309542 of 9895604911578)",
-        "more than 40 off: 0.0 % of the draws (1169462752 of 9895604911578)",
+        "more than 5 off: 29.13 % of the draws (2882304023104 of 9895604911578)",
+        "more than 10 off: 9.54 % of the draws (944473558142 of 9895604911578)",
+        "more than 20 off: 1.02 % of the draws (101412309542 of 9895604911578)",
+        "more than 40 off: 0.01 % of the draws (1169462752 of 9895604911578)",
     ];
     for (tail, line) in tails().iter().zip(lines.iter()) {
-        check(tail.to_string(heap)?.as_str() == *line)?;
+        shows(heap, tail, *line)?;
     }
-    let cases: [(u64, u32); 4] = [
+    let cases: [(u64, u64); 4] = [
         (0, 0),
-        (4_947_802_455, 0),
-        (4_947_802_456, 1),
-        (9_895_604_911_578, 1_000),
+        (494_780_245, 0),
+        (494_780_246, 1),
+        (9_895_604_911_578, 10_000),
     ];
-    for (draws, tenths) in cases {
+    for (draws, hundredths) in cases {
         let tail = Tail { places: 0, draws };
-        check_eq(tail.share().tenths, tenths)?;
+        check_eq(tail.share().hundredths, hundredths)?;
     }
     Ok(())
 }

@@ -98,7 +98,10 @@ pub impl fmt::Display for Share as ShareDisplay {
         let hundredth = self.hundredths % 10;
         let draws = self.draws;
         let all = self.all;
-        write!(f, "{whole}.{tenth}{hundredth} % of the draws ({draws} of {all})")
+        write!(
+            f,
+            "{whole}.{tenth}{hundredth} % of the draws ({draws} of {all})"
+        )
     }
 }
 

@@ -61,10 +61,11 @@ module _ (places : ℕ) (line : List ℕ) where
 
   -- an edit of 19 bytes: the row is what follows the kind and the place
   pub whole-edit :
-      (row : List ℕ) → 3 ≤ length line → length part ≡ 16 → row ≡ part →
-      read-edit places line ≡ edit-unless (edit-refusal places (edit-place line) row) (edit-place line) row
-  whole-edit row some size is =
+      (row : List ℕ) → 3 ≤ length line → length part ≡ 16 → row ≡ part → (place : ℕ) → place ≡ edit-place line →
+      read-edit places line ≡ edit-unless (edit-refusal places place row) place row
+  whole-edit row some size is place at =
       let all = take-rest line 3 in
       let long : length line ≡ 19 = omega (arith, ap length all, length-drop 3 line) in
       cond-true _ _ _ (eq-eqb (length line) 19 long)
       ∙ ap (λ x. edit-unless (edit-refusal places (edit-place line) x) (edit-place line) x) (sym (is ∙ all))
+      ∙ ap (λ p. edit-unless (edit-refusal places p row) p row) (sym at)

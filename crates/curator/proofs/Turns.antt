@@ -9,15 +9,11 @@ use lib.ListN.{length, take, drop, length-take, length-drop}
 use Rattle.std.proofs.shelf.Lists.{take-all}
 use Rattle.std.proofs.shelf.Tests.{cond-true, cond-false, lt-ltb, le-ltb}
 use Rattle.std.specs.declared.option.Option.the-variants.{Some}
-use Rattle.std.specs.declared.result.Result.{Result}
-use Rattle.std.specs.Results.{isOk}
-use Rattle.roll.specs.declared.refusal.Refusal.{Refusal}
-use Rattle.roll.specs.Refusals.{refusal-of}
 use Rattle.query.specs.Query.{Query, cost}
 use Rattle.noise.specs.Dial.{our-dial}
 use Rattle.noise.specs.Words.{first-words, words-of}
 use Rattle.noise.proofs.Reading.{words-part}
-use Rattle.budget.specs.Budget.{payment-refusal, pay}
+use Rattle.budget.specs.Budget.{payment-refusal}
 use Rattle.curator.specs.Lines.{ask}
 use Rattle.curator.specs.Curator.{verdict, taken}
 use Rattle.curator.proofs.Tapes.{length-words, first-words-take}
@@ -80,16 +76,3 @@ module _ (tape : List ℕ) where
 
     pub rest-of : 2048 ≤ length tape → (rest : List ℕ) → rest ≡ drop 2048 tape → words-of rest ≡ drop (taken our-dial (length (words-of tape)) (ask analyst q)) (words-of tape)
     rest-of h rest e = ap words-of e ∙ rest-words h ∙ sym (ap (λ n. drop n (words-of tape)) (page-taken h))
-
-    -- what a payment of the query's cost answers is the verdict
-    pub verdict-of :
-        {X : Type 0} → 2048 ≤ length tape → (units : ℕ) → units ≡ cost q → (paid r : Result X Refusal) → paid ≡ r → refusal-of paid ≡ payment-refusal budgets analyst units →
-        refusal-of r ≡ verdict our-dial (length (words-of tape)) budgets analyst q
-    verdict-of h units is paid r e said =
-        sym (ap refusal-of e) ∙ said ∙ ap (payment-refusal budgets analyst) is ∙ sym (page-verdict h)
-
-    -- and so are the budgets after it
-    pub paid-of :
-        {X : Type 0} (units : ℕ) → units ≡ cost q → (paid r : Result X Refusal) → paid ≡ r → (after : List ℕ) →
-        after ≡ cond (isOk paid) (pay budgets analyst units) budgets → after ≡ cond (isOk r) (pay budgets analyst (cost q)) budgets
-    paid-of units is paid r e after said = said ∙ ap (λ x. cond (isOk x) (pay budgets analyst units) budgets) e ∙ ap (λ n. cond (isOk r) (pay budgets analyst n) budgets) is

@@ -1,5 +1,6 @@
 // Reading a line.
 ghost use mathlib.Core.Path.{_≡_};
+ghost use Prim.Native.Nat.{_+_, _*_};
 ghost use lib.ListN.{length};
 ghost use Rattle.std.specs.Options.{Cases};
 ghost use Rattle.curator.specs.Served.{Read-as, Read-ask, Read-edit};
@@ -22,6 +23,13 @@ fn row_of(bytes: &[u8]) -> Option<&Row>
     Some(row)
 }
 
+// The place that two bytes name, low byte first.
+fn place_of(low: u8, high: u8) -> usize
+    ensures { λ r. ⌜ r ≡ low + 256 * high ⌝ }
+{
+    low as usize + 256 * high as usize
+}
+
 // An edit: its kind, two bytes for the place, low byte first, and the sixteen bytes of its new row.
 fn read_edit(line: &[u8]) -> Result<Command, Refusal>
     ensures { λ r. ⌜ Read-edit r (now (line .entry)) ⌝ }
@@ -33,8 +41,10 @@ fn read_edit(line: &[u8]) -> Result<Command, Refusal>
     let Some(row) = row_of(rest) else {
         return Err(Refusal::EditLength(end));
     };
-    let place = *low as usize + 256 * *high as usize;
-    Ok(Command::Edit { place, row: *row })
+    Ok(Command::Edit {
+        place: place_of(*low, *high),
+        row: *row,
+    })
 }
 
 // A query.

@@ -2,16 +2,20 @@
 ghost use mathlib.Core.Path.{_≡_};
 ghost use mathlib.Core.Bool.{cond};
 ghost use mathlib.Core.List.{[]};
+ghost use Prim.Native.Nat.{_≤_, _<_};
 ghost use lib.ListN.{length, take, drop, set};
+ghost use Rattle.std.specs.Options.{Cases};
 ghost use Rattle.std.specs.Results.{isOk};
 ghost use Rattle.std.specs.Vec.{made};
 ghost use Rattle.roll.specs.Refusals.{refusal-of};
 ghost use Rattle.roll.specs.Rows.{rows-of, edit-refusal};
 ghost use Rattle.query.specs.Asked.{query-of};
-ghost use Rattle.query.specs.Query.{cost};
+ghost use Rattle.query.specs.Query.{cells, cost, counts};
 ghost use Rattle.noise.specs.Dial.{our-dial};
+ghost use Rattle.noise.specs.Release.{all-released};
+ghost use Rattle.noise.specs.Released.{numbers-of};
 ghost use Rattle.noise.specs.Words.{words-of};
-ghost use Rattle.budget.specs.Budget.{budgets-of, pay};
+ghost use Rattle.budget.specs.Budget.{budgets-of, payment-refusal, pay};
 ghost use Rattle.curator.specs.Lines.{edit-unless, read-line};
 ghost use Rattle.curator.specs.Curator.{verdict, taken, outcome, step, reply, edited-roll};
 ghost use Rattle.curator.specs.Served.{ask-of, outcome-of, edit-outcome, state-by};
@@ -20,8 +24,10 @@ use crate::Answer;
 use crate::Command;
 use crate::Outcome;
 use noise::Page;
+use noise::Released;
 use noise::release_all;
 use query::Asked;
+use query::Query;
 use roll::Refusal;
 use roll::Roll;
 use roll::Row;
@@ -37,7 +43,41 @@ fn edit(roll: &mut Roll, place: usize, row: &Row) -> Outcome
     }
 }
 
+// The numbers released for a query, from the rows and a page.
+fn release_query(query: &Query, rows: &[Row], page: &Page) -> Released
+    ensures { λ r. ⌜ numbers-of r ≡ all-released our-dial (counts (cells (query-of (now (query .entry)))) (now (rows .entry))) (words-of (now (page .entry))) ⌝ }
+{
+    let counts = query.true_counts(rows);
+    let Some(released) = release_all(counts.as_slice(), page) else {
+        unreachable()
+    };
+    released
+}
+
 impl<'t> Curator<'t> {
+    // Takes the next page of the tape, where a whole one is left.
+    fn next_page(&mut self) -> Option<&'t Page>
+        ensures budgets { λ _. ⌜ now (self .exit) .budgets ≡ now (self .entry) .budgets ⌝ }
+        ensures page { λ r. ⌜ Cases r ((length (now (now (self .entry) .tape)) < 2048) × (now (now (self .exit) .tape) ≡ now (now (self .entry) .tape))) (λ p. (2048 ≤ length (now (now (self .entry) .tape))) × (now p ≡ take 2048 (now (now (self .entry) .tape))) × (now (now (self .exit) .tape) ≡ drop 2048 (now (now (self .entry) .tape)))) ⌝ }
+    {
+        let Some((page, rest)) = self.tape.split_first_chunk::<2_048>() else {
+            return None;
+        };
+        self.tape = rest;
+        Some(page)
+    }
+
+    // Charges a query to its analyst, or refuses it.
+    fn charge(&mut self, asked: &Asked) -> Result<(), Refusal>
+        ensures verdict { λ r. ⌜ refusal-of r ≡ payment-refusal (budgets-of (now (self .entry) .budgets)) (now (asked .entry) .analyst) (cost (query-of (now (asked .entry) .query))) ⌝ }
+        ensures budgets { λ r. ⌜ budgets-of (now (self .exit) .budgets) ≡ cond (isOk r) (pay (budgets-of (now (self .entry) .budgets)) (now (asked .entry) .analyst) (cost (query-of (now (asked .entry) .query)))) (budgets-of (now (self .entry) .budgets)) ⌝ }
+        ensures tape { λ _. ⌜ now (now (self .exit) .tape) ≡ now (now (self .entry) .tape) ⌝ }
+    {
+        let (budgets, paid) = self.budgets.pay(asked.analyst as usize, asked.query.cost());
+        self.budgets = budgets;
+        paid
+    }
+
     // Takes the next page for a query and charges its analyst, or refuses it. No row has a part in this.
     fn admit(&mut self, asked: &Asked) -> Result<&'t Page, Refusal>
         ensures verdict { λ r. ⌜ refusal-of r ≡ verdict our-dial (length (words-of (now (now (self .entry) .tape)))) (budgets-of (now (self .entry) .budgets)) (now (asked .entry) .analyst) (query-of (now (asked .entry) .query)) ⌝ }
@@ -45,13 +85,10 @@ impl<'t> Curator<'t> {
         ensures tape { λ r. ⌜ words-of (now (now (self .exit) .tape)) ≡ drop (taken our-dial (length (words-of (now (now (self .entry) .tape)))) (ask-of (now (asked .entry)))) (words-of (now (now (self .entry) .tape))) ⌝ }
         ensures page { λ r. ⌜ made r (λ p. words-of (now p) ≡ take (taken our-dial (length (words-of (now (now (self .entry) .tape)))) (ask-of (now (asked .entry)))) (words-of (now (now (self .entry) .tape)))) ⌝ }
     {
-        let Some((page, rest)) = self.tape.split_first_chunk::<2_048>() else {
+        let Some(page) = self.next_page() else {
             return Err(Refusal::TapeEnds);
         };
-        self.tape = rest;
-        let (budgets, paid) = self.budgets.pay(asked.analyst as usize, asked.query.cost());
-        self.budgets = budgets;
-        match paid {
+        match self.charge(asked) {
             Ok(()) => Ok(page),
             Err(refusal) => Err(refusal),
         }
@@ -66,10 +103,7 @@ impl<'t> Curator<'t> {
             Ok(page) => page,
             Err(refusal) => return Outcome::Refused(refusal),
         };
-        let counts = asked.query.true_counts(rows);
-        let Some(released) = release_all(counts.as_slice(), page) else {
-            unreachable()
-        };
+        let released = release_query(&asked.query, rows, page);
         let left = self.budgets.left(asked.analyst as usize).unwrap_or(0);
         Outcome::Answered(Answer {
             analyst: asked.analyst,

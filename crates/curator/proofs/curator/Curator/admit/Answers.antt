@@ -1,23 +1,23 @@
-use mathlib.Core.Path.{refl, sym, ap}
-use Prim.Native.Nat.{_≤_}
-use native.Mathlib.Omega.{arith}
-use lib.ListN.{length, drop}
+use mathlib.Core.Path.{sym, ap, _∙_}
+use lib.ListN.{drop}
 use Rattle.query.specs.Asked.{query-of}
+use Rattle.query.specs.Query.{cost}
 use Rattle.noise.specs.Words.{words-of}
-use Rattle.budget.specs.Budget.{budgets-of}
-use Rattle.curator.proofs.Turns.{no-page-verdict, no-page-taken, page-of, rest-of, verdict-of, paid-of}
+use Rattle.budget.specs.Budget.{budgets-of, payment-refusal, pay}
+use Rattle.curator.proofs.Turns.{no-page-verdict, no-page-taken, page-verdict, page-of, rest-of}
 use Rattle.curator.proofs.curator.Curator.admit.Needs as need
 
 pub returns-in-rest : need.returns-in-rest
 returns-in-rest c =
     let self = c .args .self .now in
     let asked = c .args .asked .now in
+    let q = query-of (asked .query) in
     let tape = self .tape .now in
-    let short = c .in-rest .ensures tt .cases in
+    let next = c .in-rest .ensures tt in
     record {
-      verdict = sym (no-page-verdict tape (budgets-of (self .budgets)) (asked .analyst) (query-of (asked .query)) short);
-      budgets = refl;
-      tape = sym (ap (λ n. drop n (words-of tape)) (no-page-taken tape (budgets-of (self .budgets)) (asked .analyst) (query-of (asked .query)) short));
+      verdict = sym (no-page-verdict tape (budgets-of (self .budgets)) (asked .analyst) q (next .page .0));
+      budgets = ap budgets-of (next .budgets);
+      tape = ap words-of (next .page .1) ∙ sym (ap (λ n. drop n (words-of tape)) (no-page-taken tape (budgets-of (self .budgets)) (asked .analyst) q (next .page .0)));
       page = tt;
     }
 
@@ -25,28 +25,28 @@ pub returns-in-Ok : need.returns-in-Ok
 returns-in-Ok c =
     let self = c .args .self .now in
     let asked = c .args .asked .now in
-    let tape = self .tape .now in
     let q = query-of (asked .query) in
-    let parts = c .in-Some .ensures tt .cases in
-    let long : 2048 ≤ length tape = omega (arith, parts .2) in
+    let tape = self .tape .now in
+    let next = c .in-Some .ensures tt in
+    let charged = c .in-Ok .ensures tt in
     record {
-      verdict = verdict-of tape (budgets-of (self .budgets)) (asked .analyst) q long _ (c .cost .ensures) _ _ (c .in-Ok .is) (c .pay-paid .ensures .verdict);
-      budgets = paid-of tape (budgets-of (self .budgets)) (asked .analyst) q _ (c .cost .ensures) _ _ (c .in-Ok .is) _ (c .pay-paid .ensures .after);
-      tape = rest-of tape (budgets-of (self .budgets)) (asked .analyst) q long _ (parts .1);
-      page = page-of tape (budgets-of (self .budgets)) (asked .analyst) q long _ (parts .0);
+      verdict = charged .verdict ∙ ap (λ b. payment-refusal (budgets-of b) (asked .analyst) (cost q)) (next .budgets) ∙ sym (page-verdict tape (budgets-of (self .budgets)) (asked .analyst) q (next .page .0));
+      budgets = charged .budgets ∙ ap (λ b. pay (budgets-of b) (asked .analyst) (cost q)) (next .budgets);
+      tape = rest-of tape (budgets-of (self .budgets)) (asked .analyst) q (next .page .0) _ (charged .tape ∙ next .page .2);
+      page = page-of tape (budgets-of (self .budgets)) (asked .analyst) q (next .page .0) _ (next .page .1);
     }
 
 pub returns-in-Err : need.returns-in-Err
 returns-in-Err c =
     let self = c .args .self .now in
     let asked = c .args .asked .now in
-    let tape = self .tape .now in
     let q = query-of (asked .query) in
-    let parts = c .in-Some .ensures tt .cases in
-    let long : 2048 ≤ length tape = omega (arith, parts .2) in
+    let tape = self .tape .now in
+    let next = c .in-Some .ensures tt in
+    let charged = c .in-Err .ensures tt in
     record {
-      verdict = verdict-of tape (budgets-of (self .budgets)) (asked .analyst) q long _ (c .cost .ensures) _ _ (c .in-Err .is) (c .pay-paid .ensures .verdict);
-      budgets = paid-of tape (budgets-of (self .budgets)) (asked .analyst) q _ (c .cost .ensures) _ _ (c .in-Err .is) _ (c .pay-paid .ensures .after);
-      tape = rest-of tape (budgets-of (self .budgets)) (asked .analyst) q long _ (parts .1);
+      verdict = charged .verdict ∙ ap (λ b. payment-refusal (budgets-of b) (asked .analyst) (cost q)) (next .budgets) ∙ sym (page-verdict tape (budgets-of (self .budgets)) (asked .analyst) q (next .page .0));
+      budgets = charged .budgets ∙ ap (λ b. budgets-of b) (next .budgets);
+      tape = rest-of tape (budgets-of (self .budgets)) (asked .analyst) q (next .page .0) _ (charged .tape ∙ next .page .2);
       page = tt;
     }

@@ -1,11 +1,7 @@
-use mathlib.Core.Path.{_≡_, sym, ap, _∙_}
-use Prim.Native.Nat.{_≤_}
-use native.Mathlib.Omega.{arith}
-use lib.ListN.{length, length-take}
+use mathlib.Core.Path.{ap, _∙_}
 use Rattle.std.specs.Options.{valueOr}
 use Rattle.query.specs.Asked.{query-of}
 use Rattle.noise.specs.Dial.{our-dial}
-use Rattle.noise.specs.Release.{all-released}
 use Rattle.noise.specs.Words.{words-of}
 use Rattle.budget.specs.Budget.{budgets-of}
 use Rattle.curator.proofs.Replies.{refused-turn, answered-turn}
@@ -19,19 +15,11 @@ returns-in-Err c =
     let turn = refused-turn our-dial (c .args .rows .now) (budgets-of (self .budgets)) (words-of (self .tape .now)) (asked .analyst) (query-of (asked .query)) _ (took .verdict) _ _ (took .budgets) (took .tape) in
     record { outcome = turn .0; after = turn .1 }
 
-pub unreachable-requires : need.unreachable-requires
-unreachable-requires c κs =
-    let counts = c .true-counts-counts .result in
-    let few : counts .len ≤ 64 = counts .few in
-    omega (arith, c .in-rest .ensures tt, ap length (c .as-slice .ensures), length-take (counts .len) (counts .counts))
-
 pub returns : need.returns
 returns c =
     let self = c .args .self .now in
     let asked = c .args .asked .now in
     let took = c .in-Ok .ensures tt in
-    let released = c .in-Some .ensures tt in
-    let numbers = released .1 ∙ ap (λ xs. all-released our-dial xs (words-of (c .in-Ok .page .now))) (c .as-slice .ensures ∙ c .true-counts-counts .ensures) in
     let left = c .unwrap-or-left .ensures ∙ ap (λ o. valueOr o 0) (c .left .ensures) in
-    let turn = answered-turn our-dial (c .args .rows .now) (budgets-of (self .budgets)) (words-of (self .tape .now)) (asked .analyst) (query-of (asked .query)) (took .verdict) _ _ _ _ _ (took .page) numbers left (took .budgets) (took .tape) in
+    let turn = answered-turn our-dial (c .args .rows .now) (budgets-of (self .budgets)) (words-of (self .tape .now)) (asked .analyst) (query-of (asked .query)) (took .verdict) _ _ _ _ _ (took .page) (c .release-query-released .ensures) left (took .budgets) (took .tape) in
     record { outcome = turn .0; after = turn .1 }

@@ -19,3 +19,4 @@ pub use outcome::Answer;
 pub use outcome::Outcome;
 pub use running::Journal;
 pub use running::run;
+pub use running::split_line;

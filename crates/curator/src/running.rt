@@ -26,7 +26,7 @@ pub trait Journal {
 }
 
 // The first line and what follows it; none where there is no byte.
-fn split_line(bytes: &[u8]) -> Option<(&[u8], &[u8])>
+pub fn split_line(bytes: &[u8]) -> Option<(&[u8], &[u8])>
     ensures { λ r. ⌜ Cases r (length (now (bytes .entry)) ≡ 0) (λ p. (0 < length (now (bytes .entry))) × (now (p .0) ≡ first-line (now (bytes .entry))) × (now (p .1) ≡ after-line (now (bytes .entry)))) ⌝ }
 {
     match bytes {

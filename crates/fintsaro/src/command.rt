@@ -8,11 +8,12 @@ use roll::MOST_PLACES;
 // How many places are served where nothing else is said.
 const USUAL_PLACES: usize = 2_048;
 
-// How a run is served: at most so many places, and whether it is told how far off the numbers may be.
+// How a run is served: at most so many places, whether it is told how far off the numbers may be, and whether the accounts follow.
 #[derive(Clone, Copy, Debug)]
 pub struct Options {
     pub places: usize,
     pub errors: bool,
+    pub audit: bool,
 }
 
 // A run of the desk from two files.
@@ -51,6 +52,7 @@ fn options_of<'a, 'b>(words: &'b [&'a str]) -> Option<(Options, &'b [&'a str])> 
     let mut options = Options {
         places: USUAL_PLACES,
         errors: false,
+        audit: false,
     };
     let mut rest = words;
     for _ in 0..words.len() {
@@ -61,6 +63,10 @@ fn options_of<'a, 'b>(words: &'b [&'a str]) -> Option<(Options, &'b [&'a str])> 
             }
             ["--errors", after @ ..] => {
                 options.errors = true;
+                rest = after;
+            }
+            ["--audit", after @ ..] => {
+                options.audit = true;
                 rest = after;
             }
             _ => break,

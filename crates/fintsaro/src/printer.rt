@@ -10,12 +10,13 @@ use curator::Journal;
 use curator::Outcome;
 use std::io;
 
-// Prints each outcome as it comes. Once a line could not be printed, none is tried any more.
+// Prints each outcome as it comes, and keeps it where outcomes are kept. Once a line could not be printed, none is tried any more.
 #[derive(Drop)]
 pub struct Printer<'a> {
     pub rt: &'a LibcRuntime,
     pub places: usize,
     pub errors: bool,
+    pub kept: Option<Vec<Outcome>>,
     pub printed: io::Result<()>,
 }
 
@@ -29,6 +30,13 @@ fn print_errors(rt: &LibcRuntime) -> io::Result<()> {
 }
 
 impl Printer<'_> {
+    fn keep(&mut self, outcome: &Outcome) -> io::Result<()> {
+        match &mut self.kept {
+            Some(kept) => Ok(kept.push(*outcome)?),
+            None => Ok(()),
+        }
+    }
+
     fn print(&self, outcome: &Outcome) -> io::Result<()> {
         match outcome {
             Outcome::Answered(answer) => {
@@ -58,6 +66,9 @@ pub impl Journal for Printer<'_> as PrinterJournal {
     fn note(&mut self, outcome: &Outcome) {
         if self.printed.is_ok() {
             self.printed = self.print(outcome);
+        }
+        if self.printed.is_ok() {
+            self.printed = self.keep(outcome);
         }
     }
 }

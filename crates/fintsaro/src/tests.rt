@@ -9,6 +9,7 @@ use roll::RefusalPartialEq;
 use std::test::*;
 
 // A journal that counts what it is told.
+#[derive(Drop)]
 struct Counter(u32);
 
 impl Journal for Counter as CounterJournal {

@@ -1,0 +1,4 @@
+pub mod Accountant
+pub mod Reckoned
+pub mod Lines
+pub mod Statements

@@ -144,7 +144,11 @@ fn refusals() -> Result<(), Fail> {
     let mut curator = Curator::open(Budgets::open(&[3, 1])?, &tape);
     let edit = [1, 9, 0, 1, 1, 1, 1, 1, 1, 1, 1, 1, 1, 1, 1, 1, 1, 1, 1];
     let status = [1, 4, 0, 2, 1, 1, 1, 1, 1, 1, 1, 1, 1, 1, 1, 1, 1, 1, 1];
-    let lines: [(&[u8], Refusal); 17] = [
+    let mut long = [3; 71];
+    long[0] = 2;
+    long[1] = 0;
+    long[2] = 1;
+    let lines: [(&[u8], Refusal); 18] = [
         (&[], Refusal::LineKind),
         (&[3, 0, 1, 1, 1, 50], Refusal::LineKind),
         (&edit[0..18], Refusal::EditLength(18)),
@@ -155,6 +159,7 @@ fn refusals() -> Result<(), Fail> {
         (&[2, 0, 2, 16, 1, 5, 1, 1, 50], Refusal::TableField),
         (&[2, 0, 2, 2, 64, 5, 1, 1, 50], Refusal::CutCount),
         (&[2, 0, 2, 2, 2, 5, 5, 1, 1, 50], Refusal::CutOrder(6)),
+        (&long, Refusal::TokenCount(67)),
         (&[2, 0, 1, 4, 1, 50], Refusal::TokenKind(3)),
         (&[2, 0, 1, 1, 16, 50], Refusal::PredicateField(4)),
         (&[2, 0, 1, 1, 1, 50, 0], Refusal::TrailingByte(6)),

@@ -6,18 +6,18 @@ use Prim.Native.Nat.{ℕ, suc, _+_, _-_}
 use native.Mathlib.Nat.{add-zero}
 use native.Mathlib.Omega.{arith}
 use lib.Dec.{eqb}
-use lib.ListN.{length, getD}
+use lib.ListN.{getD}
 use Rattle.std.specs.declared.option.Option.{Option}
 use Rattle.std.specs.declared.option.Option.the-variants.{Some, None}
 use Rattle.std.specs.declared.result.Result.{Result}
 use Rattle.std.specs.declared.result.Result.the-variants.{Ok, Err}
 use Rattle.roll.specs.Numbers.{total}
-use Rattle.query.specs.Query.{Query, cells, cost}
+use Rattle.query.specs.Query.{Query, cost}
 use Rattle.budget.specs.Budget.{payment-refusal}
 use Rattle.curator.specs.Curator.{Outcome, answered, edited, refused}
 use Rattle.accountant.specs.declared.impossible.Flaw.{Flaw}
-use Rattle.accountant.specs.declared.impossible.Flaw.the-variants.{OtherAnalyst, CellCount, BudgetLeft}
-use Rattle.accountant.specs.Accountant.{Standing, standing, query-of-line, if-paid, charged, after-answer, answer-to, entered, then-on, audited-from, audited}
+use Rattle.accountant.specs.declared.impossible.Flaw.the-variants.{BudgetLeft}
+use Rattle.accountant.specs.Accountant.{Standing, standing, query-of-line, if-paid, charged, misfit, unless, if-left, answer-to, entered, then-on, audited-from, audited}
 use Rattle.accountant.specs.Statements.{Kept, curator-standing}
 use Rattle.accountant.proofs.Entries.{charged-balance, was-paid}
 use Rattle.accountant.proofs.Runs.{strategies}
@@ -31,17 +31,19 @@ passed : (b : Bool) (x : Result Standing Flaw) (f : Flaw) (r : Standing) → Ok 
 passed true x f r e = e
 passed false x f r e = let z : _≡_ {A = ℕ} 0 1 = cc in absurd (omega arith)
 
+-- a flaw that is not there
+fitted : (f : Option Flaw) (x : Result Standing Flaw) (r : Standing) → Ok r ≡ unless f x → Ok r ≡ x
+fitted None x r e = e
+fitted (Some f) x r e = let z : _≡_ {A = ℕ} 0 1 = cc in absurd (omega arith)
+
 -- one answer
 answer-balance : (s r : Standing) (a : Option (ℕ × Query)) (who : ℕ) (numbers : List ℕ) (left : ℕ) → Ok r ≡ answer-to s a who numbers left → all r ≡ all s
 answer-balance s r None who numbers left e = let z : _≡_ {A = ℕ} 0 1 = cc in absurd (omega arith)
 answer-balance s r (Some (analyst, q)) who numbers left e =
     let rest : ℕ = getD (s .budgets) analyst 0 - cost q in
-    let told : Result Standing Flaw = cond (eqb left rest) (Ok (charged s analyst (cost q))) (Err BudgetLeft) in
-    let paid : Result Standing Flaw = if-paid (payment-refusal (s .budgets) analyst (cost q)) told in
-    let sized : Result Standing Flaw = cond (eqb (length numbers) (length (cells q))) paid (Err CellCount) in
-    let was =
-    was-paid (payment-refusal (s .budgets) analyst (cost q)) told r
-    (passed (eqb (length numbers) (length (cells q))) paid CellCount r (passed (eqb who analyst) sized OtherAnalyst r e)) in
+    let told : Result Standing Flaw = if-left left rest (charged s analyst (cost q)) in
+    let paid = if-paid (payment-refusal (s .budgets) analyst (cost q)) told in
+    let was = was-paid (payment-refusal (s .budgets) analyst (cost q)) told r (fitted (misfit analyst q who numbers) paid r e) in
     let same : Ok r ≡ Ok (charged s analyst (cost q)) = passed (eqb left rest) (Ok (charged s analyst (cost q))) BudgetLeft r (was .1) in
     let is : r ≡ charged s analyst (cost q) = cc in
     ap all is ∙ charged-balance s analyst (cost q) (was .0)

@@ -1,9 +1,9 @@
 -- The reckoning, one line more at a time.
-use mathlib.Core.Path.{_≡_, refl, sym, ap, _∙_}
+use mathlib.Core.Path.{_≡_, sym, ap, _∙_}
 use mathlib.Core.Bool.{cond}
 use mathlib.Core.List.{List, [], _∷_, map}
 use mathlib.Core.Logic.{⊎-elim}
-use Prim.Native.Nat.{ℕ, suc, _+_, _≤_, _<_}
+use Prim.Native.Nat.{ℕ, _+_, _<_}
 use native.Mathlib.Numerals.{add-one}
 use native.Mathlib.Omega.{arith}
 use lib.Dec.{eqb}
@@ -26,6 +26,16 @@ use Rattle.accountant.specs.Accountant.{Standing, standing, entered, impossibl
 pub opened : (s : Standing) (budgets : List ℕ) (lines : List (List ℕ)) (os : List Outcome) → s ≡ standing budgets 0 → audited-from 0 s lines os ≡ audited budgets lines os
 unfolding audited
 opened s budgets lines os is = ap (λ x. audited-from 0 x lines os) is
+
+-- whatever follows a line follows what it is entered as
+went : (i : ℕ) (x : Result Standing Flaw) (r : Standing) → Ok r ≡ then-on i x (λ t. Ok t) → (next : Standing → Result Standing Impossible) → next r ≡ then-on i x next
+went i (Ok t) r is next = let same : r ≡ t = cc in ap next same
+went i (Err f) r is next = let z : _≡_ {A = ℕ} 0 1 = cc in absurd (omega arith)
+
+-- and nothing follows what is impossible
+stopped : (i : ℕ) (x : Result Standing Flaw) (e : Impossible) → Err e ≡ then-on i x (λ t. Ok t) → (next : Standing → Result Standing Impossible) → Err e ≡ then-on i x next
+stopped i (Ok t) e is next = let z : _≡_ {A = ℕ} 0 1 = cc in absurd (omega arith)
+stopped i (Err f) e is next = is
 
 module _ (i : ℕ) (s : Standing) (bytes : List ℕ) (os : List Given) where
   -- what is left gives this
@@ -72,15 +82,19 @@ module _ (i : ℕ) (s : Standing) (bytes : List ℕ) (os : List Given) where
         ∙ ap (λ j. then-on i (entered s (first-line bytes) (outcome-of o)) (λ r. audited-from j r (lines-in (after-line bytes)) (map outcome-of (drop (i + 1) os)))) (sym (add-one i))
 
     module _ (line after : List ℕ) (some : 0 < length bytes) (first : line ≡ first-line bytes) (follows : after ≡ after-line bytes) where
-      -- which is entered
-      pub goes-on : (r : Standing) → Ok r ≡ entered s line (outcome-of o) → audited-from (i + 1) r (lines-in after) (map outcome-of (drop (i + 1) os)) ≡ rest
-      goes-on r is =
-          ap (λ b. audited-from (i + 1) r (lines-in b) (map outcome-of (drop (i + 1) os))) follows
-          ∙ ap (λ x. then-on i x (λ t. audited-from (i + 1) t (lines-in (after-line bytes)) (map outcome-of (drop (i + 1) os)))) (is ∙ ap (λ l. entered s l (outcome-of o)) first)
-          ∙ sym (one-more some)
+      -- by what the line leads to
+      next-line :
+          rest ≡ then-on i (entered s line (outcome-of o)) (λ r. audited-from (i + 1) r (lines-in after) (map outcome-of (drop (i + 1) os)))
+      next-line =
+          one-more some
+          ∙ ap (λ l. then-on i (entered s l (outcome-of o)) (λ r. audited-from (i + 1) r (lines-in (after-line bytes)) (map outcome-of (drop (i + 1) os)))) (sym first)
+          ∙ ap (λ b. then-on i (entered s line (outcome-of o)) (λ r. audited-from (i + 1) r (lines-in b) (map outcome-of (drop (i + 1) os)))) (sym follows)
 
-      -- or has a flaw
-      pub stops : (f : Flaw) → Err f ≡ entered s line (outcome-of o) → Err (impossible i f) ≡ rest
-      stops f is =
-          ap (λ x. then-on i x (λ t. audited-from (i + 1) t (lines-in (after-line bytes)) (map outcome-of (drop (i + 1) os)))) (is ∙ ap (λ l. entered s l (outcome-of o)) first)
-          ∙ sym (one-more some)
+      -- it is entered
+      pub goes-on :
+          (r : Standing) → Ok r ≡ then-on i (entered s line (outcome-of o)) (λ t. Ok t) → audited-from (i + 1) r (lines-in after) (map outcome-of (drop (i + 1) os)) ≡ rest
+      goes-on r is = went i (entered s line (outcome-of o)) r is _ ∙ sym next-line
+
+      -- or it is impossible
+      pub stops : (e : Impossible) → Err e ≡ then-on i (entered s line (outcome-of o)) (λ t. Ok t) → Err e ≡ rest
+      stops e is = stopped i (entered s line (outcome-of o)) e is _ ∙ sym next-line

@@ -2,29 +2,28 @@
 use mathlib.Core.Path.{_≡_, refl, sym, ap, subst, _∙_}
 use mathlib.Core.Bool.{Bool, true, false, cond}
 use mathlib.Core.List.{List, [], _∷_, _++_}
-use Prim.Native.Nat.{ℕ, zero, suc, _+_, _-_, _/_, _≤_}
+use Prim.Native.Nat.{ℕ, zero, suc, _+_, _-_}
 use native.Mathlib.Nat.{add-zero, zero-add, add-assoc}
 use native.Mathlib.Omega.{arith}
-use lib.Dec.{ltb, eqb}
+use lib.Dec.{ltb}
 use lib.ListN.{length, getD, take, drop, length-append, length-drop}
 use Rattle.std.proofs.shelf.Lists.{drop-all, drop-more}
 use Rattle.std.proofs.shelf.Tests.{cond-true, eq-eqb}
 use Rattle.std.specs.declared.option.Option.{Option}
 use Rattle.std.specs.declared.option.Option.the-variants.{Some, None}
-use Rattle.std.specs.declared.result.Result.the-variants.{Ok, Err}
-use Rattle.roll.specs.Rows.{Row, edit-refusal}
+use Rattle.std.specs.declared.result.Result.the-variants.{Ok}
+use Rattle.roll.specs.Rows.{Row}
 use Rattle.query.specs.Query.{Query, cells, cost, counts}
-use Rattle.query.specs.Lines.{read-query}
 use Rattle.noise.specs.Dial.{Dial, our-dial}
 use Rattle.noise.specs.Release.{all-released}
 use Rattle.noise.specs.Words.{words-of}
 use Rattle.budget.specs.Budget.{payment-refusal, pay}
-use Rattle.curator.specs.Lines.{Command, edit, ask, reject, edit-place, edit-unless, read-edit, ask-or, read-line}
-use Rattle.curator.specs.Curator.{Outcome, answered, edited, refused, State, opening, at-opening, page, verdict, by-verdict, taken, reply, charge, price, paid, outcome, step, Strategy, Commands, commands, transcript, transcript-of, state-after, state-of, spent, spent-of}
+use Rattle.curator.specs.Lines.{Command, edit, ask, reject, read-line}
+use Rattle.curator.specs.Curator.{Outcome, answered, edited, refused, State, at-opening, page, verdict, by-verdict, taken, reply, charge, price, paid, outcome, step, Strategy, Commands, commands, transcript, transcript-of, state-after, state-of, spent, spent-of}
 use Rattle.curator.specs.Scripts.{script}
 use Rattle.curator.proofs.Replies.{refused-reply, refused-paid, granted-reply, granted-paid, left-after}
 use Rattle.curator.proofs.Tapes.{length-words}
-use Rattle.accountant.specs.Accountant.{Standing, standing, query-in, query-of-line, if-paid, charged, after-answer, answer-to, entered, then-on, audited-from, audited, written}
+use Rattle.accountant.specs.Accountant.{Standing, standing, query-in, query-of-line, if-paid, charged, misfit, after-answer, answer-to, entered, then-on, audited-from, audited, written}
 use Rattle.accountant.specs.Statements.{Audits, curator-standing}
 use Rattle.accountant.proofs.Entries.{by-left, counts-length}
 use Rattle.accountant.proofs.Queries.{query-alike}
@@ -41,9 +40,10 @@ answer-entered :
     after-answer s analyst q analyst numbers (getD (s .budgets) analyst 0 - cost q) ≡ Ok (charged s analyst (cost q))
 answer-entered s analyst q numbers size pays =
     let after : ℕ = getD (s .budgets) analyst 0 - cost q in
-    by-left s (charged s analyst (cost q)) analyst q (ap (λ e. if-paid e (Ok (charged s analyst (cost q)))) pays)
-    analyst numbers after after refl size (sym (left-after (s .budgets) analyst (cost q)))
-    ∙ cond-true _ _ _ (eq-eqb after after refl)
+    let fit : None ≡ misfit analyst q analyst numbers =
+    sym (cond-true _ _ _ (eq-eqb analyst analyst refl) ∙ cond-true _ _ _ (eq-eqb (length numbers) (length (cells q)) size)) in
+    by-left s (charged s analyst (cost q)) analyst q analyst numbers after fit (ap (λ e. if-paid e (Ok (charged s analyst (cost q)))) pays)
+    ∙ cond-true _ _ _ (eq-eqb after _ (sym (left-after (s .budgets) analyst (cost q))))
 
 module _ (d : Dial) (left : ℕ) (budgets : List ℕ) where
   -- a query that is granted is one that the budgets can pay

@@ -48,15 +48,25 @@ charged s analyst cost = standing (pay (s .budgets) analyst cost) (s .spent + co
 abbrev pub paying : Standing → ℕ → ℕ → Result Standing Flaw
 paying s analyst cost = if-paid (payment-refusal (s .budgets) analyst cost) (Ok (charged s analyst cost))
 
--- after an answer to an analyst's query: it names the analyst, has a number for each cell, is paid, and tells what is then left
+-- why an answer to `who` is none to this analyst's query, if it is none: it names another analyst, or has not one number for each cell
+abbrev pub misfit : ℕ → Query → ℕ → List ℕ → Option Flaw
+misfit analyst q who numbers =
+    cond (eqb who analyst) (cond (eqb (length numbers) (length (cells q))) None (Some CellCount)) (Some OtherAnalyst)
+
+-- where there is no flaw
+abbrev pub unless : Option Flaw → Result Standing Flaw → Result Standing Flaw
+unless None s = s
+unless (Some flaw) s = Err flaw
+
+-- where what an answer tells to be left is what the analyst then holds
+abbrev pub if-left : ℕ → ℕ → Standing → Result Standing Flaw
+if-left told holds s = cond (eqb told holds) (Ok s) (Err BudgetLeft)
+
+-- after an answer to an analyst's query: it fits, it is paid, and it tells what is then left
 abbrev pub after-answer : Standing → ℕ → Query → ℕ → List ℕ → ℕ → Result Standing Flaw
 after-answer s analyst q who numbers left =
-    cond (eqb who analyst)
-    (cond (eqb (length numbers) (length (cells q)))
-    (if-paid (payment-refusal (s .budgets) analyst (cost q))
-    (cond (eqb left (getD (s .budgets) analyst 0 - cost q)) (Ok (charged s analyst (cost q))) (Err BudgetLeft)))
-    (Err CellCount))
-    (Err OtherAnalyst)
+    unless (misfit analyst q who numbers)
+    (if-paid (payment-refusal (s .budgets) analyst (cost q)) (if-left left (getD (s .budgets) analyst 0 - cost q) (charged s analyst (cost q))))
 
 -- after an answer to a line
 abbrev pub answer-to : Standing → Option (ℕ × Query) → ℕ → List ℕ → ℕ → Result Standing Flaw

@@ -1,5 +1,4 @@
 -- What an account in memory stands for.
-use mathlib.Core.Path.{_≡_}
 use Prim.Native.Nat.{ℕ}
 use Rattle.std.specs.declared.option.Option.{Option}
 use Rattle.std.specs.declared.option.Option.the-variants.{Some, None}
@@ -10,6 +9,7 @@ use Rattle.query.specs.Asked.{query-of}
 use Rattle.query.specs.Query.{Query}
 use Rattle.budget.specs.Budget.{budgets-of}
 use Rattle.accountant.specs.declared.account.Account.{Account}
+use Rattle.accountant.specs.declared.impossible.Flaw.{Flaw}
 use Rattle.accountant.specs.Accountant.{Standing, standing}
 
 -- what its budgets hold, and the units spent
@@ -20,6 +20,11 @@ standing-of a = standing (budgets-of (a .budgets)) (a .spent)
 abbrev pub reckoned : {E : Type 0} → Result Account E → Result Standing E
 reckoned (Ok a) = Ok (standing-of a)
 reckoned (Err e) = Err e
+
+-- the flaw that was found, if any
+abbrev pub flaw-of : {X : Type 0} → Result X Flaw → Option Flaw
+flaw-of (Ok x) = None
+flaw-of (Err flaw) = Some flaw
 
 -- who asks which query, if there is one in memory
 abbrev pub asked-of : Option Asked → Option (ℕ × Query)

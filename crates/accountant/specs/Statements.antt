@@ -34,11 +34,11 @@ pub record Kept : Type 0 where
       (write : Strategy) (n : ℕ) (roll : List Row) (budgets tape : List ℕ) →
       (s : Standing) × (audited budgets (written write [] (transcript-of write n roll budgets tape)) (transcript-of write n roll budgets tape) ≡ Ok s)
       × (state-of write n roll budgets tape .budgets ≡ s .budgets)
-  -- the curator's budgets, with what was spent on the way to the transcript
+  -- what the curator's budgets hold is, with what was spent on the way to the transcript, what they held
   pub spends :
       (write : Strategy) (n : ℕ) (roll : List Row) (budgets tape : List ℕ) →
       total (state-of write n roll budgets tape .budgets) + spent-of write (length roll) (length tape) budgets (transcript-of write n roll budgets tape) ≡ total budgets
-  -- what the accountant works out from any lines and outcomes
+  -- from any lines and outcomes: what the accountant says to be left and to be spent is together what the budgets held
   pub balances :
       (budgets : List ℕ) (lines : List (List ℕ)) (os : List Outcome) (s : Standing) → audited budgets lines os ≡ Ok s →
       total (s .budgets) + s .spent ≡ total budgets

@@ -2,16 +2,14 @@
 ghost use mathlib.Core.Path.{_≡_};
 ghost use mathlib.Core.Bool.{cond};
 ghost use mathlib.Core.List.{map};
-ghost use Prim.Native.Nat.{_<_};
 ghost use lib.Dec.{eqb};
 ghost use lib.ListN.{length};
-ghost use Rattle.std.specs.Options.{Cases};
 ghost use Rattle.std.specs.declared.result.Result.the-variants.{Ok, Err};
 ghost use Rattle.budget.specs.Budget.{budgets-of};
-ghost use Rattle.curator.specs.Scripts.{first-line, after-line, lines-in};
+ghost use Rattle.curator.specs.Scripts.{lines-in};
 ghost use Rattle.curator.specs.Served.{outcome-of};
 ghost use Rattle.accountant.specs.declared.impossible.Flaw.the-variants.{NoOutcome};
-ghost use Rattle.accountant.specs.Accountant.{impossible, audited};
+ghost use Rattle.accountant.specs.Accountant.{entered, impossible, then-on, audited};
 ghost use Rattle.accountant.specs.Reckoned.{reckoned, standing-of};
 ghost use Rattle.accountant.specs.Statements.{Audits};
 use crate::Account;
@@ -20,6 +18,21 @@ use crate::Impossible;
 use budget::Budgets;
 use curator::Outcome;
 use curator::split_line;
+
+// Enters line `at` with its outcome, or says that it is impossible.
+fn enter_at(
+    at: usize,
+    account: Account,
+    line: &[u8],
+    outcome: &Outcome,
+) -> Result<Account, Impossible>
+    ensures { λ r. ⌜ reckoned r ≡ then-on at (entered (standing-of account) (now (line .entry)) (outcome-of (now (outcome .entry)))) (λ s. Ok s) ⌝ }
+{
+    match account.enter(line, outcome) {
+        Ok(next) => Ok(next),
+        Err(flaw) => Err(Impossible { at, flaw }),
+    }
+}
 
 // The account after the last outcome, unless a line is left, which has the number `at`.
 fn close(account: Account, left: &[u8], at: usize) -> Result<Account, Impossible>
@@ -49,10 +62,7 @@ pub fn audit(budgets: Budgets, lines: &[u8], outcomes: &[Outcome]) -> Result<Acc
                 flaw: Flaw::NoLine,
             });
         };
-        account = match account.enter(line, outcome) {
-            Ok(next) => next,
-            Err(flaw) => return Err(Impossible { at, flaw }),
-        };
+        account = enter_at(at, account, line, outcome)?;
         left = rest;
     }
     close(account, left, outcomes.len())

@@ -2,8 +2,6 @@
 use crate::Accounts;
 use crate::AccountsDisplay;
 use crate::Flaw;
-use crate::FlawDebug;
-use crate::FlawPartialEq;
 use crate::Impossible;
 use crate::ImpossibleDebug;
 use crate::ImpossiblePartialEq;

@@ -1,15 +1,19 @@
 // What the words of the command line ask for.
 ghost use mathlib.Core.Path.{_≡_};
 ghost use mathlib.Core.Bool.{cond, _&&_};
+ghost use Prim.Native.Nat.{_≤_, _<_};
 ghost use lib.Dec.{leb};
+ghost use lib.ListN.{length};
+ghost use Rattle.std.specs.Options.{Cases};
 ghost use Rattle.std.specs.declared.option.Option.the-variants.{Some, None};
+ghost use Rattle.fintsaro.specs.Commands.{Servable};
 use roll::MOST_PLACES;
 
 // How many places are served where nothing else is said.
 const USUAL_PLACES: usize = 2_048;
 
 // How a run is served: at most so many places, whether it is told how far off the numbers may be, and whether the accounts follow.
-#[derive(Clone, Copy, Debug)]
+#[derive(Clone, Copy, Debug, PartialEq)]
 pub struct Options {
     pub places: usize,
     pub errors: bool,
@@ -17,13 +21,13 @@ pub struct Options {
 }
 
 // A run of the desk from two files.
-#[derive(Clone, Copy, Debug)]
+#[derive(Clone, Copy, Debug, PartialEq)]
 pub struct Files<'a> {
     pub run: &'a str,
     pub tape: &'a str,
 }
 
-#[derive(Clone, Copy, Debug)]
+#[derive(Clone, Copy, Debug, PartialEq)]
 pub enum Command<'a> {
     Usage,
     Serve(Files<'a>, Options),
@@ -40,7 +44,9 @@ pub fn served(places: usize) -> Option<usize>
 }
 
 // The number of places that a word spells.
-fn places_of(word: &str) -> Option<usize> {
+fn places_of(word: &str) -> Option<usize>
+    ensures { λ r. ⌜ Cases r (Unit {0}) (λ n. (1 ≤ n) × (n ≤ 32768)) ⌝ }
+{
     let Ok(places) = word.parse::<usize>() else {
         return None;
     };
@@ -48,7 +54,9 @@ fn places_of(word: &str) -> Option<usize> {
 }
 
 // The options that the words begin with, and the words after them.
-fn options_of<'a, 'b>(words: &'b [&'a str]) -> Option<(Options, &'b [&'a str])> {
+fn options_of<'a, 'b>(words: &'b [&'a str]) -> Option<(Options, &'b [&'a str])>
+    ensures { λ r. ⌜ Cases r (Unit {0}) (λ p. (1 ≤ p .0 .places) × (p .0 .places ≤ 32768)) ⌝ }
+{
     let mut options = Options {
         places: USUAL_PLACES,
         errors: false,
@@ -76,7 +84,9 @@ fn options_of<'a, 'b>(words: &'b [&'a str]) -> Option<(Options, &'b [&'a str])> 
 }
 
 // The command that the words after the program's name spell, if they spell one.
-pub fn command_of<'a>(words: &[&'a str]) -> Option<Command<'a>> {
+pub fn command_of<'a>(words: &[&'a str]) -> Option<Command<'a>>
+    ensures { λ r. ⌜ Cases r (0 < length (now (words .entry))) Servable ⌝ }
+{
     if let [] | ["--help"] = words {
         return Some(Command::Usage);
     }

@@ -1,4 +1,10 @@
 // Openings of run files, whole and cut.
+use crate::command::Command;
+use crate::command::CommandDebug;
+use crate::command::CommandPartialEq;
+use crate::command::Files;
+use crate::command::Options;
+use crate::command::command_of;
 use crate::command::served;
 use crate::run_file::serve_file;
 use curator::Journal;
@@ -108,4 +114,34 @@ fn places() -> Result<(), Fail> {
     check_eq(served(1), Some(1))?;
     check_eq(served(32_768), Some(32_768))?;
     check_eq(served(32_769), None)
+}
+
+// The words of the command line, options first.
+#[test]
+fn commands() -> Result<(), Fail> {
+    let files = Files {
+        run: "a",
+        tape: "b",
+    };
+    let usual = Options {
+        places: 2_048,
+        errors: false,
+        audit: false,
+    };
+    let all = Options {
+        places: 32_768,
+        errors: true,
+        audit: true,
+    };
+    check_eq(command_of(&[]), Some(Command::Usage))?;
+    check_eq(command_of(&["--help"]), Some(Command::Usage))?;
+    check_eq(command_of(&["a", "b"]), Some(Command::Serve(files, usual)))?;
+    check_eq(
+        command_of(&["--audit", "--places", "32768", "--errors", "a", "b"]),
+        Some(Command::Serve(files, all)),
+    )?;
+    check_eq(command_of(&["--places", "0", "a", "b"]), None)?;
+    check_eq(command_of(&["--places", "32769", "a", "b"]), None)?;
+    check_eq(command_of(&["a"]), None)?;
+    check_eq(command_of(&["a", "b", "c"]), None)
 }

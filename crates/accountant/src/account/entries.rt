@@ -1,13 +1,14 @@
 // What an outcome does to the account.
 ghost use mathlib.Core.Path.{_≡_};
 ghost use lib.ListN.{length};
+ghost use Rattle.std.specs.Options.{valueOr};
 ghost use Rattle.query.specs.Asked.{query-of};
 ghost use Rattle.query.specs.Query.{cells, cost};
-ghost use Rattle.budget.specs.Budget.{budgets-of};
+ghost use Rattle.budget.specs.Budget.{budgets-of, held};
 ghost use Rattle.curator.specs.Served.{outcome-of};
 ghost use Rattle.noise.specs.Released.{numbers-of};
-ghost use Rattle.accountant.specs.Accountant.{standing, query-of-line, paying, answer-to, entered};
-ghost use Rattle.accountant.specs.Reckoned.{standing-of, reckoned, asked-of};
+ghost use Rattle.accountant.specs.Accountant.{standing, query-of-line, paying, misfit, if-left, answer-to, entered};
+ghost use Rattle.accountant.specs.Reckoned.{standing-of, reckoned, flaw-of, asked-of};
 use super::Account;
 use crate::Flaw;
 use budget::Budgets;
@@ -37,6 +38,19 @@ fn cell_count(query: &Query) -> usize
 {
     let counts = query.true_counts(&[]);
     counts.as_slice().len()
+}
+
+// Whether the answer is one to the query: to its analyst, with a number for each cell.
+fn fits(asked: &Asked, answer: &Answer) -> Result<(), Flaw>
+    ensures { λ r. ⌜ flaw-of r ≡ misfit (now (asked .entry) .analyst) (query-of (now (asked .entry) .query)) (now (answer .entry) .analyst) (numbers-of (now (answer .entry) .released)) ⌝ }
+{
+    if answer.analyst != asked.analyst {
+        return Err(Flaw::OtherAnalyst);
+    }
+    if answer.released.len() != cell_count(&asked.query) {
+        return Err(Flaw::CellCount);
+    }
+    Ok(())
 }
 
 impl Account {
@@ -71,6 +85,16 @@ impl Account {
         self.pay(asked.analyst as usize, asked.query.cost())
     }
 
+    // The account, where the analyst holds as many units as an answer tells.
+    fn leaves(self, analyst: usize, left: u8) -> Result<Account, Flaw>
+        ensures { λ r. ⌜ reckoned r ≡ if-left left (valueOr (held (budgets-of (self .budgets)) analyst) 0) (standing-of self) ⌝ }
+    {
+        if left != self.budgets.left(analyst).unwrap_or(0) {
+            return Err(Flaw::BudgetLeft);
+        }
+        Ok(self)
+    }
+
     // Enters an answer to a line.
     fn answered(self, line: &[u8], answer: &Answer) -> Result<Account, Flaw>
         ensures { λ r. ⌜ reckoned r ≡ answer-to (standing-of self) (query-of-line (now (line .entry))) (now (answer .entry) .analyst) (numbers-of (now (answer .entry) .released)) (now (answer .entry) .left) ⌝ }
@@ -78,17 +102,9 @@ impl Account {
         let Some(asked) = asked_in(line) else {
             return Err(Flaw::NoQuery);
         };
-        if answer.analyst != asked.analyst {
-            return Err(Flaw::OtherAnalyst);
-        }
-        if answer.released.len() != cell_count(&asked.query) {
-            return Err(Flaw::CellCount);
-        }
-        let after = self.charge(&asked)?;
-        if answer.left != after.budgets.left(asked.analyst as usize).unwrap_or(0) {
-            return Err(Flaw::BudgetLeft);
-        }
-        Ok(after)
+        fits(&asked, answer)?;
+        self.charge(&asked)?
+            .leaves(asked.analyst as usize, answer.left)
     }
 
     // Enters a line with its outcome. An edit and a refused line cost nothing.

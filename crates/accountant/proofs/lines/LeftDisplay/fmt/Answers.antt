@@ -1,8 +1,8 @@
-use mathlib.Core.Path.{_≡_, refl, ap}
-use Prim.Native.Nat.{_<_, _≤_}
+use mathlib.Core.Path.{refl, ap}
+use Prim.Native.Nat.{_<_}
 use borrow.Author.Needs.{needs}
 use native.Mathlib.Omega.{arith}
-use lib.ListN.{length, length-take}
+use lib.ListN.{length-take}
 use lib.Seq.{take-all}
 use Rattle.std.proofs.Writes.{put-is}
 use Rattle.budget.specs.Budget.{budgets-of}
@@ -26,7 +26,7 @@ loop-units-again g c =
       λ plain.
           let before = c .loop-units .inv .1 plain in
           let one = c .in-Continue-write .ensures tt .shows (before .plain) refl in
-          put-left _ _ _ _ (budgets-of b) (c .loop-units .analyst) (c .in-Some .units) (is .0) (is .1) before one,
+          put-left (g .W·Write .took) (c .args .f .now) (c .loop-units .f) (c .write .last .self) (budgets-of b) (c .loop-units .analyst) (c .in-Some .units) (is .0) (is .1) before one,
     )
 
 pub returns : need.returns

@@ -1,4 +1,6 @@
 // The accountant: what the budgets hold, from the opening's budgets, the lines and the outcomes alone.
+#![tactic(auto)]
+
 mod account;
 mod impossible;
 mod laws;

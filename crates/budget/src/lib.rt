@@ -1,4 +1,6 @@
 // The analysts' budgets: opened once, and only ever lowered.
+#![tactic(auto)]
+
 ghost use Rattle.std.specs.Prelude.{◌≡◌, ◌-◌, ◌≤◌, take, drop, replicate};
 ghost use Rattle.roll.specs.Numbers.{total};
 

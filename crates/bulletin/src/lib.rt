@@ -1,4 +1,6 @@
 // The bulletin: numbers as printed, and how far off they may be.
+#![tactic(auto)]
+
 ghost use Rattle.noise.specs.Dial.{Dial};
 ghost use Rattle.bulletin.specs.Statements.{HonestError, Tails};
 

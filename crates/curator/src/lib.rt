@@ -1,4 +1,6 @@
 // The curator: a run of lines, what each leads to, and what is promised of whole runs.
+#![tactic(auto)]
+
 mod command;
 mod curator;
 mod laws;

@@ -1,4 +1,6 @@
 // The counting desk: a run from two files.
+#![tactic(auto)]
+
 mod command;
 mod printer;
 mod run_file;

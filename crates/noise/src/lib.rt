@@ -1,4 +1,6 @@
 // Words of chance, and the numbers released for true counts.
+#![tactic(auto)]
+
 ghost use Rattle.std.specs.Prelude.{◌≡◌, ◌+◌, ◌%◌};
 ghost use Rattle.noise.specs.Dial.{Dial, Good, our_dial};
 ghost use Rattle.noise.specs.Release.{our_draw, our_number, our_release};

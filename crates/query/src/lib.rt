@@ -1,4 +1,6 @@
 // Queries: reading them, what they cost, their true counts, and what one row of the roll can do to these.
+#![tactic(auto)]
+
 mod counts;
 mod cuts;
 mod field;

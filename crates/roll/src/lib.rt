@@ -1,4 +1,6 @@
 // The roll of households: its rows, predicates on a row, and why an opening or a line is refused.
+#![tactic(auto)]
+
 mod number;
 mod predicate;
 mod refusal;

@@ -1,4 +1,6 @@
 // The ring of decaying weights, and the offset of a draw: the place of the ring that it falls into.
+#![tactic(auto)]
+
 ghost use Rattle.std.specs.Prelude.{◌≡◌};
 ghost use Rattle.weights.specs.Ring.{our_offset, walked};
 ghost use Rattle.weights.specs.Statements.{DecayNear, Falls, Neighbours, OurDraws, OurNumbers};

@@ -2,8 +2,8 @@ use Rattle.std.proofs.Common.{◌≤◌, get_or, sym, ◌∙◌, subst}
 use Rattle.roll.proofs.Misfits.{stops_here, goes_on, finds_none}
 use Rattle.roll.proofs.rows.check_status.Goals as goal
 
-pub returns-in-default : goal.returns-in-default
-returns-in-default c = sym (stops_here _ _ c.loop-place-test.true c.in-default.ensures) ∙ c.loop-place.invariant
+pub returns-in_default : goal.returns-in_default
+returns-in_default c = sym (stops_here _ _ c.loop-place-test.true c.in_default.ensures) ∙ c.loop-place.invariant
 
 pub loop-place-preserved : goal.loop-place-preserved
 loop-place-preserved c =

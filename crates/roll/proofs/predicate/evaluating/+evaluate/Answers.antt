@@ -18,17 +18,17 @@ three t c = c.in-Some.ensures ∙ ap token_byte c.in-Negated.is
 pub unreachable-requires : goal.unreachable-requires
 unreachable-requires t c = omega (arith, ltb-true, some_bytes _ _ _ c.requires.spelled)
 
-pub unreachable-requires-in-default-of : goal.unreachable-requires-in-default-of
-unreachable-requires-in-default-of t c = some_token _ _ _ c.requires.spelled c.in-default-of.ensures
+pub unreachable-requires-in_default-of : goal.unreachable-requires-in_default-of
+unreachable-requires-in_default-of t c = some_token _ _ _ c.requires.spelled c.in_default-of.ensures
 
 pub operands-field-requires : goal.operands-field-requires
 operands-field-requires t c =
     let p = compared _ _ _ c.requires.spelled (one t (goal.at.operands-field-requires t c).In-Below) in
     omega (arith, ap length p.tail)
 
-pub is-below-requires : goal.is-below-requires
-is-below-requires t c =
-    let p = compared _ _ _ c.requires.spelled (one t (goal.at.is-below-requires t c).In-Below) in
+pub is_below-requires : goal.is_below-requires
+is_below-requires t c =
+    let p = compared _ _ _ c.requires.spelled (one t (goal.at.is_below-requires t c).In-Below) in
     let small : p.field < 16 = subst Fields p.is c.requires.fields in
     omega (arith, c.operands-field.ensures.0, ap (λ l. get_or l 0 0) p.tail)
 
@@ -52,7 +52,7 @@ pub returns-in-Below : goal.returns-in-Below
 returns-in-Below t c u rest e =
     let p = compared u rest _ e (one t (goal.at.returns-in-Below t c).In-Below) in
     let o = c.operands-field.ensures in
-    compares u rest _ c.args.row.now _ _ _ _ p o.0 o.1 o.2 c.is-below.ensures
+    compares u rest _ c.args.row.now _ _ _ _ p o.0 o.1 o.2 c.is_below.ensures
 
 pub returns-after-first : goal.returns-after-first
 unfolding passes

@@ -2,11 +2,11 @@ use Rattle.std.proofs.Common.{◌≤◌, get_or, sym, refl, subst}
 use Rattle.roll.proofs.Edits.{no_place, no_status, taken, rows_after}
 use Rattle.roll.proofs.rows.Roll.edit.Goals as goal
 
-pub returns-in-default : goal.returns-in-default
-returns-in-default c = record { verdict = sym (no_place _ _ c.args.row.now c.in-default.ensures); after = refl }
+pub returns-in_default : goal.returns-in_default
+returns-in_default c = record { verdict = sym (no_place _ _ c.args.row.now c.in_default.ensures); after = refl }
 
-pub returns-in-default-fitting : goal.returns-in-default-fitting
-returns-in-default-fitting c = record { verdict = sym (no_status _ _ c.args.row.now c.in-Some.ensures.0 c.in-default-fitting.ensures); after = refl }
+pub returns-in_default-fitting : goal.returns-in_default-fitting
+returns-in_default-fitting c = record { verdict = sym (no_status _ _ c.args.row.now c.in-Some.ensures.0 c.in_default-fitting.ensures); after = refl }
 
 pub returns : goal.returns
 returns c =

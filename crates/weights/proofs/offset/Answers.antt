@@ -18,14 +18,14 @@ module _ (table : List ℕ) (e : table ≡ stretch (decay 4 5) 0 121) where
 fell : (c : goal.In-Ok) → (c.in-Ok.place < 120) × (Some c.in-Ok.place ≡ our_offset c.args.u)
 fell c = falling_place _ (omega arith) _ (along_falling _ c.decaying-table.ensures.table _ _ c.in-Ok.ensures)
 
-pub overflow-cast-result : goal.overflow-cast-result
-overflow-cast-result c = omega (arith, (fell c).0)
+pub overflow_cast-result : goal.overflow_cast-result
+overflow_cast-result c = omega (arith, (fell c).0)
 
 pub returns-in-Ok : goal.returns-in-Ok
 returns-in-Ok c = (fell c).1
 
-pub returns-then-rest-lt-LEVEL-TOTAL : goal.returns-then-rest-lt-LEVEL-TOTAL
-returns-then-rest-lt-LEVEL-TOTAL c =
+pub returns-then-rest-lt-LEVEL_TOTAL : goal.returns-then-rest-lt-LEVEL_TOTAL
+returns-then-rest-lt-LEVEL_TOTAL c =
     let past = along_falling _ c.decaying-table.ensures.table _ _ c.in-Err.ensures in
     level_place _ (omega arith) _ past _ (omega arith) (omega arith)
 
@@ -36,8 +36,8 @@ fell_last c =
     let past = along_falling _ is _ _ c.in-Err.ensures in
     rising_place _ (omega arith) _ past (omega arith) _ _ (along_rising _ is _ _ c.in-Ok-walk.ensures) (omega arith)
 
-pub overflow-sub-result-in-Ok-walk : goal.overflow-sub-result-in-Ok-walk
-overflow-sub-result-in-Ok-walk c = omega (arith, (fell_last c).0)
+pub overflow_sub-result-in-Ok-walk : goal.overflow_sub-result-in-Ok-walk
+overflow_sub-result-in-Ok-walk c = omega (arith, (fell_last c).0)
 
 pub unreachable-requires : goal.unreachable-requires
 unreachable-requires c =

@@ -9,11 +9,11 @@ pub loop-analyst-init : goal.loop-analyst-init
 unfolding total
 loop-analyst-init c = (refl, refl, refl, refl, omega arith, refl)
 
-pub returns-in-default : goal.returns-in-default
-returns-in-default c =
+pub returns-in_default : goal.returns-in_default
+returns-in_default c =
     let bytes = c.args.bytes.now in
     record {
-      verdict = sym (by_budgets bytes (omega arith) (omega arith) ∙ sym c.loop-analyst.invariant.5 ∙ stops_here bytes _ _ c.loop-analyst-test.true c.in-default.ensures);
+      verdict = sym (by_budgets bytes (omega arith) (omega arith) ∙ sym c.loop-analyst.invariant.5 ∙ stops_here bytes _ _ c.loop-analyst-test.true c.in_default.ensures);
       holds = tt;
     }
 

@@ -3,8 +3,8 @@ use Rattle.roll.specs.Numbers.{total}
 use Rattle.budget.proofs.Payments.{taken, lowered, still_bounded, rest_stays}
 use Rattle.budget.proofs.Budgets.pay.Goals as goal
 
-pub invariant-of-self : goal.invariant-of-self
-invariant-of-self c =
+pub invariant_of-self : goal.invariant_of-self
+invariant_of-self c =
     let self = c.args.self in
     let i = c.args.analyst in
     let was = c.in-Some.ensures in

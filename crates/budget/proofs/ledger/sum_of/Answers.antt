@@ -7,8 +7,8 @@ pub loop-units-init : goal.loop-units-init
 unfolding total
 loop-units-init c = refl
 
-pub overflow-add-sum : goal.overflow-add-sum
-overflow-add-sum c =
+pub overflow_add-sum : goal.overflow_add-sum
+overflow_add-sum c =
     let budgets = c.args.budgets.now in
     let i = c.loop-units.units-index in
     omega (arith, total_more budgets i c.loop-units-test.true, total_take (i + 1) budgets)

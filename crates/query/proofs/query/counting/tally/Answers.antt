@@ -2,25 +2,25 @@ use Rattle.std.proofs.Common.{◌≡◌, length, take, sym, refl, ap, ◌∙◌,
 use Rattle.roll.specs.Stored.{predicate_of}
 use Rattle.query.proofs.Cells.{start, finish, few_so_far, turn_miss, turn_hit}
 use Rattle.query.proofs.query.counting.tally.Goals as goal
-use Rattle.query.proofs.query.counting.tally.Goals.{in-Some, in-default}
+use Rattle.query.proofs.query.counting.tally.Goals.{in-Some, in_default}
 
 pub loop-row-init : goal.loop-row-init
 loop-row-init c =
     (refl, sym (start (predicate_of c.args.predicate.now) c.args.field.now.number c.args.cuts.now c.requires.few c.args.rows.now))
 
-pub overflow-add-numbers : goal.overflow-add-numbers
-overflow-add-numbers c =
+pub overflow_add-numbers : goal.overflow_add-numbers
+overflow_add-numbers c =
     let few = few_so_far (predicate_of c.args.predicate.now) c.args.field.now.number c.args.cuts.now c.requires.few c.args.rows.now c.loop-row.numbers c.loop-row.row-index c.in-Some.cell c.in-Some.ensures.1 c.loop-row.invariant.1 (omega arith) in
     omega arith
 
 pub loop-row-preserved : goal.loop-row-preserved
 loop-row-preserved c =
-    elim c.match-counting-cell.branch [
+    elim c.match-counting_cell.branch [
       | in-Some w ↦ (ap length w.numbers-is ∙ length-set c.loop-row.numbers _ _ ∙ c.loop-row.invariant.0, w.numbers-is ∙ turn_hit (predicate_of c.args.predicate.now) c.args.field.now.number c.args.cuts.now c.requires.few c.args.rows.now c.loop-row.numbers c.loop-row.row-index w.in-Some.cell c.loop-row-test.true c.loop-row.invariant.1 w.in-Some.ensures.0 w.in-Some.ensures.1 w.in-Some.ensures.2)
-      | in-default w ↦ (ap length w.numbers-is ∙ c.loop-row.invariant.0, w.numbers-is ∙ turn_miss (predicate_of c.args.predicate.now) c.args.field.now.number c.args.cuts.now c.requires.few c.args.rows.now c.loop-row.numbers c.loop-row.row-index c.loop-row-test.true c.loop-row.invariant.1 w.in-default.ensures)
+      | in_default w ↦ (ap length w.numbers-is ∙ c.loop-row.invariant.0, w.numbers-is ∙ turn_miss (predicate_of c.args.predicate.now) c.args.field.now.number c.args.cuts.now c.requires.few c.args.rows.now c.loop-row.numbers c.loop-row.row-index c.loop-row-test.true c.loop-row.invariant.1 w.in_default.ensures)
     ]
 
 pub returns : goal.returns
 returns c =
-    ap (λ n. take n c.loop-row.numbers) c.cell-count.ensures
+    ap (λ n. take n c.loop-row.numbers) c.cell_count.ensures
     ∙ finish (predicate_of c.args.predicate.now) c.args.field.now.number c.args.cuts.now c.requires.few c.args.rows.now c.loop-row.numbers c.loop-row.row-index c.loop-row-test.false c.loop-row.invariant.1

@@ -20,4 +20,4 @@ overflow-add-result c = let few = bounded c in search rules
 pub invariant-of-result : goal.invariant-of-result
 invariant-of-result c =
     let after : budgets_of c.pay-paid.result.0 ≡ pay (budgets_of c.args.self.budgets) c.args.analyst c.args.cost = search rules in
-    (omega (arith, ap total after, bounded c), tt)
+    omega (arith, ap total after, bounded c)

@@ -20,7 +20,7 @@ loop-i-preserved c =
     (length-set _ _ _ ∙ inv.0, cell_more _ _ _ _ _ c.loop-i-test.true (omega arith) inv.1 own, set_below _ _ _ 65536 inv.2 (rw own (at_most_65536 _ _)))
 
 pub invariant-of-result : goal.invariant-of-result
-invariant-of-result c = (omega arith, (c.loop-i.invariant.2, tt))
+invariant-of-result c = record { few = omega arith; places = c.loop-i.invariant.2 }
 
 pub returns : goal.returns
 returns c =

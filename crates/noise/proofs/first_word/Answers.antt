@@ -5,7 +5,7 @@ use Rattle.noise.proofs.first_word.Goals as goal
 
 pub returns : goal.returns
 returns c =
-    let parts = c.in-ok-word.ensures.cases in
+    let parts = c.in_ok-word.ensures.cases in
     let enough : 8 ≤ length c.args.bytes.now = omega arith in
-    let long : length c.in-ok-word.word.now ≡ 8 = ap length parts.0 ∙ length-take-le 8 _ enough in
+    let long : length c.in_ok-word.word.now ≡ 8 = ap length parts.0 ∙ length-take-le 8 _ enough in
     (enough, omega (arith, eight_bytes _ long, ap word_of parts.0), parts.1)

@@ -14,13 +14,13 @@ loop-i-preserved c =
     let inv = c.loop-i.invariant in
     let page = c.args.page.now in
     let i = c.loop-i.i in
-    let told = c.in-ok-numbers.ensures in
-    let part : Some c.in-ok-numbers.field-0 ≡ our_release (get_or c.args.counts.now i 0) (take (2048 - 32 * i) (drop (32 * i) page)) = search rules in
+    let told = c.in_ok-numbers.ensures in
+    let part : Some c.in_ok-numbers.field-0 ≡ our_release (get_or c.args.counts.now i 0) (take (2048 - 32 * i) (drop (32 * i) page)) = search rules in
     let own = of_cell _ _ page i (32 * i) (2048 - 32 * i) part refl (omega arith) (omega arith) in
     (length-set _ _ _ ∙ inv.0, cell_more _ _ _ _ _ c.loop-i-test.true (omega arith) inv.1 own, set_below _ _ _ 65536 inv.2 (rw own (at_most_65536 _ _)))
 
-pub invariant-of-result : goal.invariant-of-result
-invariant-of-result c = record { few = omega arith; places = c.loop-i.invariant.2 }
+pub invariant_of-result : goal.invariant_of-result
+invariant_of-result c = record { few = omega arith; places = c.loop-i.invariant.2 }
 
 pub returns : goal.returns
 returns c =

@@ -44,7 +44,7 @@ pub fn run<'t, J: Journal>(
     tape: &'t [u8],
     journal: &mut J,
 ) -> Curator<'t>
-    ensures told { Told notes journal.old (transcript_of (script (lines_in lines.now)) (length (lines_in lines.now)) (rows_of roll.old) (budgets_of budgets) tape.now) journal.new }
+    ensures told { Told J.notes journal.old (transcript_of (script (lines_in lines.now)) (length (lines_in lines.now)) (rows_of roll.old) (budgets_of budgets) tape.now) journal.new }
     ensures after { state_by result (rows_of roll.new) ≡ state_of (script (lines_in lines.now)) (length (lines_in lines.now)) (rows_of roll.old) (budgets_of budgets) tape.now }
     ensures private { Private }
     ensures bounded { Bounded }

@@ -41,7 +41,7 @@ returns g c =
     let start : state_by c.open-curator.result rows ≡ at_opening rows (budgets_of c.args.budgets) c.args.tape.now =
     ap (λ b. opening rows (budgets_of b) (words_of c.open-curator.result.tape.now)) opened.budgets
     ∙ ap (λ t. opening rows (budgets_of c.args.budgets) (words_of t)) opened.tape in
-    let none : length c.loop-line.left.now ≡ 0 = c.in-default.ensures in
+    let none : length c.loop-line.left.now ≡ 0 = c.in_default.ensures in
     let All : State → Type 0 = λ s. Told g.J.Journal.notes c.args.journal.now (transcript our_dial (commands (length s.roll) (script lines)) (length lines) s []) c.loop-line.journal in
     let Last : State → Type 0 = λ s.
     state_by c.loop-line.curator (rows_of c.loop-line.roll) ≡ state_after our_dial (commands (length s.roll) (script lines)) (length lines) s [] in

@@ -10,7 +10,7 @@ returns-in-len1 c =
 
 pub returns-in-len2-up : goal.returns-in-len2-up
 returns-in-len2-up c =
-    let parts = c.split-at.ensures in
-    let size = c.min.ensures ∙ ap (λ n. min n (length (take (length c.args.bytes.now - 2) (drop 2 c.args.bytes.now)))) c.two-bytes-size.ensures in
+    let parts = c.split_at.ensures in
+    let size = c.min.ensures ∙ ap (λ n. min n (length (take (length c.args.bytes.now - 2) (drop 2 c.args.bytes.now)))) c.two_bytes-size.ensures in
     let cut = cut_line c.args.bytes.now _ _ _ size parts.front parts.back in
     (omega (arith, ltb-false), cut.0, cut.1)

@@ -6,13 +6,13 @@ use Rattle.budget.specs.Budget.{budgets_of, payment_refusal, pay}
 use Rattle.curator.proofs.Turns.{no_page_verdict, no_page_taken, page_verdict, page_of, rest_of}
 use Rattle.curator.proofs.curator.Curator.admit.Goals as goal
 
-pub returns-in-default : goal.returns-in-default
-returns-in-default c =
+pub returns-in_default : goal.returns-in_default
+returns-in_default c =
     let self = c.args.self.now in
     let asked = c.args.asked.now in
     let q = query_of asked.query in
     let tape = self.tape.now in
-    let next = c.in-default.ensures in
+    let next = c.in_default.ensures in
     record {
       verdict = sym (no_page_verdict tape (budgets_of self.budgets) asked.analyst q next.page.0);
       budgets = ap budgets_of next.budgets;

@@ -19,6 +19,6 @@ returns c =
     let self = c.args.self.now in
     let asked = c.args.asked.now in
     let took = c.in-Ok.ensures in
-    let left = c.unwrap-or-left.ensures ∙ ap (λ o. unwrap_or o 0) c.left.ensures in
-    let turn = answered_turn our_dial c.args.rows.now (budgets_of self.budgets) (words_of self.tape.now) asked.analyst (query_of asked.query) took.verdict _ _ _ _ _ took.page c.release-query-released.ensures left took.budgets took.tape in
+    let left = c.unwrap_or-left.ensures ∙ ap (λ o. unwrap_or o 0) c.left.ensures in
+    let turn = answered_turn our_dial c.args.rows.now (budgets_of self.budgets) (words_of self.tape.now) asked.analyst (query_of asked.query) took.verdict _ _ _ _ _ took.page c.release_query-released.ensures left took.budgets took.tape in
     record { outcome = turn.0; after = turn.1 }

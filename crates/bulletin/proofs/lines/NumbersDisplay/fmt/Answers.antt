@@ -10,7 +10,7 @@ loop-released-init g c plain = record { wrote = writes_in_calls_nil g.W.Write.wr
 pub loop-released-preserved : goal.loop-released-preserved
 loop-released-preserved g c plain =
     let before = c.loop-released.invariant plain in
-    let one = c.in-ok-write.ensures.shows before.plain refl in
+    let one = c.in_ok-write.ensures.writes before.plain refl in
     put_number _ _ _ _ _ _ _ _ c.loop-released-test.true c.of-printed.ensures before one
 
 pub returns-clause-writes : goal.returns-clause-writes

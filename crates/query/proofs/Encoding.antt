@@ -1,14 +1,14 @@
 -- Reading and encoding a query are inverse to each other.
-use Rattle.std.proofs.Common.{◌≡◌, ℕ, ◌+◌, ◌<◌, ◌≤◌, Bool, true, false, cond, ◌||◌, eqb, ltb, List, [], ◌∷◌, ◌++◌, length, get_or, take, drop, sym, refl, ap, ◌∙◌, subst, arith, ltb-false, le-ltb, ne_eqb, eqb-true}
+use Rattle.std.proofs.Common.{◌≡◌, ℕ, ◌≤◌, ◌||◌, eqb, ltb, List, [], ◌∷◌, ◌++◌, length, take, drop, sym, refl, ap, ◌∙◌, subst, arith, ltb-false, le-ltb, ne_eqb, eqb-true}
 use borrow.Author.Tests.{eqb-false}
 use Rattle.std.proofs.lemmas.List.{take_at, drop_at, length-take-le, take-append-drop}
 use Rattle.std.proofs.lemmas.Bool.{cond_both, or_parts}
 use Rattle.roll.specs.Predicates.{Predicate, encode}
 use Rattle.roll.specs.Reading.{Reading, got, refused, read_predicate, first}
 use Rattle.roll.proofs.Laws.{reads_encoded, encodes_read}
-use Rattle.query.specs.Lines.{Asking, asked, malformed, about, rising, by_cuts, count_line, table_line, read_query, encode_query, rises, Sound, WellFormed, QueryReadsEncoded, QueryEncodesRead}
+use Rattle.query.specs.Lines.{Asking, asked, malformed, about, rising, count_line, table_line, encode_query, Sound, WellFormed, QueryReadsEncoded, QueryEncodesRead}
 use Rattle.query.specs.Query.{Query, count_of, table_of}
-use Rattle.query.proofs.Rising.{Risen, risen, rising_past}
+use Rattle.query.proofs.Rising.{risen, rising_past}
 
 -- a query is read again from the line that encodes it
 pub query_reads_encoded : QueryReadsEncoded

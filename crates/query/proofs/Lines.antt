@@ -1,11 +1,11 @@
 -- How the bytes of a query line are read, part by part.
-use Rattle.std.proofs.Common.{◌≡◌, ℕ, suc, ◌+◌, ◌-◌, ◌<◌, ◌≤◌, Bool, true, false, cond, ◌||◌, eqb, ltb, List, [], ◌∷◌, length, get_or, take, drop, sym, refl, ap, ◌∙◌, arith, le-ltb, ne_eqb}
+use Rattle.std.proofs.Common.{◌≡◌, ℕ, suc, ◌+◌, ◌<◌, ◌≤◌, List, [], ◌∷◌, length, get_or, take, drop, sym, ap, ◌∙◌, arith, le-ltb, ne_eqb}
 use Rattle.std.proofs.lemmas.List.{take_rest, drop-drop}
 use Rattle.roll.specs.Reading.{read_predicate}
 use Rattle.query.specs.declared.query.kind.Kind.{Kind}
 use Rattle.query.specs.declared.query.kind.Kind.TheVariants.{Count, Table}
 use Rattle.query.specs.Asked.{kind_byte}
-use Rattle.query.specs.Lines.{Asking, asked, malformed, about, rising, by_cuts, table_line, read_query}
+use Rattle.query.specs.Lines.{Asking, malformed, about, rising, by_cuts, table_line, read_query}
 use Rattle.query.specs.Query.{table_of}
 use Rattle.roll.proofs.Opened.{after}
 

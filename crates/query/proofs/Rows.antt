@@ -3,7 +3,7 @@ use Rattle.std.proofs.Common.{◌≡◌, ℕ, zero, suc, ◌+◌, ◌≤◌, Boo
 use Rattle.roll.specs.Numbers.{one_if, total, apart}
 use Rattle.roll.specs.Predicates.{Predicate, below, both, negated, passes, counted, count}
 use Rattle.roll.specs.Rows.{Row}
-use Rattle.query.specs.Query.{count_of, table_of, cut, cells, cost, counts, marks}
+use Rattle.query.specs.Query.{count_of, table_of, cut, cells, counts, marks}
 use Rattle.query.specs.Statements.{MovesBy, CellsDisjoint, DisjointCells, SingleCell, OneRow}
 
 -- a mark is 0 or 1

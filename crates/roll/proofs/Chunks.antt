@@ -1,5 +1,5 @@
 -- A list cut into runs of one length, and what a write to one run does.
-use Rattle.std.proofs.Common.{◌≡◌, ℕ, zero, suc, ◌+◌, ◌-◌, ◌*◌, ◌/◌, ◌<◌, ◌≤◌, List, [], ◌∷◌, ◌++◌, length, take, drop, set, sym, refl, ap, ◌∙◌, le_trans, mul-le-mul_left, mul-zero, mul-suc, arith, length-append, length-drop, length-take}
+use Rattle.std.proofs.Common.{◌≡◌, ℕ, zero, suc, ◌+◌, ◌*◌, ◌<◌, ◌≤◌, List, ◌∷◌, ◌++◌, length, take, drop, set, refl, ap, ◌∙◌, le_trans, mul-le-mul_left, mul-zero, mul-suc, arith, length-append, length-drop, length-take}
 use Rattle.std.proofs.lemmas.List.{take_at, take-append-le, take-take, drop_at, drop-append-le, drop-drop, drop-take}
 use Rattle.std.specs.Simd.{first_chunks}
 

@@ -1,5 +1,5 @@
 -- Reading and encoding a predicate are inverse to each other.
-use Rattle.std.proofs.Common.{◌≡◌, ℕ, zero, suc, ◌+◌, ◌-◌, ◌*◌, ◌≤◌, Bool, true, false, cond, eqb, ltb, List, [], ◌∷◌, ◌++◌, length, sym, refl, ap, ◌∙◌, subst, append_assoc, append-nil, arith, length-append, ltb-false, le-ltb, eqb-true}
+use Rattle.std.proofs.Common.{◌≡◌, ℕ, zero, suc, ◌+◌, ◌-◌, ◌*◌, ◌≤◌, Bool, true, eqb, ltb, List, [], ◌∷◌, ◌++◌, length, sym, refl, ap, ◌∙◌, subst, append_assoc, append-nil, arith, length-append, ltb-false, le-ltb, eqb-true}
 use Rattle.std.proofs.lemmas.Bool.{cond_both}
 use Rattle.roll.specs.Predicates.{Predicate, below, both, negated, encode, tokens, Fields, passes, Begins, Evaluated}
 use Rattle.roll.specs.Reading.{Reading, got, refused, push, join, negate, finish, compare_with, past, parse, read_predicate, first_read, is_got, spells, decoded, bare, ReadsEncoded, EncodesRead}

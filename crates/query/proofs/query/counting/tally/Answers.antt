@@ -1,4 +1,4 @@
-use Rattle.std.proofs.Common.{◌≡◌, length, take, sym, refl, ap, ◌∙◌, arith, length-set}
+use Rattle.std.proofs.Common.{length, take, sym, refl, ap, ◌∙◌, arith, length-set}
 use Rattle.roll.specs.Stored.{predicate_of}
 use Rattle.query.proofs.Cells.{start, finish, few_so_far, turn_miss, turn_hit}
 use Rattle.query.proofs.query.counting.tally.Goals as goal

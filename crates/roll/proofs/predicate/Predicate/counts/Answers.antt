@@ -1,4 +1,4 @@
-use Rattle.std.proofs.Common.{◌&&◌, sym, ap, ◌∙◌}
+use Rattle.std.proofs.Common.{◌&&◌, ap, ◌∙◌}
 use Rattle.roll.specs.Predicates.{counted, passes}
 use Rattle.roll.specs.Stored.{predicate_of}
 use Rattle.roll.proofs.predicate.Predicate.counts.Goals as goal

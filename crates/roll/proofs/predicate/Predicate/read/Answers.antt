@@ -1,7 +1,7 @@
-use Rattle.std.proofs.Common.{◌≡◌, [], ◌∷◌, length, drop, sym, ap, ◌∙◌, arith}
+use Rattle.std.proofs.Common.{[], ◌∷◌, length, sym, ap, ◌∙◌, arith}
 use Rattle.std.proofs.lemmas.List.{drop_all}
 use Rattle.std.proofs.lemmas.Result.{err_from_is_err_and}
-use Rattle.roll.specs.Reading.{got, spells, decoded, read_predicate, bare}
+use Rattle.roll.specs.Reading.{got, spells, decoded, read_predicate}
 use Rattle.roll.proofs.Laws.{Valid, accepts, refuses, short, spells_valid, read_valid}
 use Rattle.roll.proofs.predicate.Predicate.read.Goals as goal
 use Rattle.roll.proofs.predicate.Predicate.read.Goals.{In_ok-scan_one}

@@ -154,7 +154,7 @@ mod tests {
         let Some(released) = release_all(&[1, 1, 2], &page) else {
             return Err(Fail::new("too many cells"));
         };
-        assert!(rt; released.as_slice() == &[1, 2, 65_535]);
+        assert!(rt; released.as_slice() == [1, 2, 65_535].as_slice());
         assert_eq!(rt; released.len(), 3);
         Ok(())
     }
@@ -166,7 +166,7 @@ mod tests {
         let Some(released) = release_all(&[65_535; 64], &page) else {
             return Err(Fail::new("too many cells"));
         };
-        assert!(rt; released.as_slice() == &[65_535; 64]);
+        assert!(rt; released.as_slice() == [65_535; 64].as_slice());
         assert!(rt; release_all(&[0; 65], &page).is_none());
         Ok(())
     }

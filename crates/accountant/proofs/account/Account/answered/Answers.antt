@@ -12,5 +12,5 @@ returns c =
     let asked = c.in-Some.asked in
     let s = standing_of c.args.self in
     c.leaves.ensures
-    ∙ sym (by_left s _ asked.analyst (query_of asked.query) answer.analyst (numbers_of answer.released) answer.left c.in-ok-fits.ensures c.in-ok-charge.ensures)
+    ∙ sym (by_left s _ asked.analyst (query_of asked.query) answer.analyst (numbers_of answer.released) answer.left c.in_ok-fits.ensures c.in_ok-charge.ensures)
     ∙ ap (λ x. answer_to s x answer.analyst (numbers_of answer.released) answer.left) c.in-Some.ensures

@@ -14,10 +14,10 @@ bounded c =
     sym (ap refusal_of c.in-Ok.is) ∙ c.pay-paid.ensures.verdict in
     omega (arith, charged_balance (standing_of c.args.self) c.args.analyst c.args.cost paid, c.args.self.bounded)
 
-pub overflow-add-result : goal.overflow-add-result
-overflow-add-result c = let few = bounded c in search rules
+pub overflow_add-result : goal.overflow_add-result
+overflow_add-result c = let few = bounded c in search rules
 
-pub invariant-of-result : goal.invariant-of-result
-invariant-of-result c =
+pub invariant_of-result : goal.invariant_of-result
+invariant_of-result c =
     let after : budgets_of c.pay-paid.result.0 ≡ pay (budgets_of c.args.self.budgets) c.args.analyst c.args.cost = search rules in
     omega (arith, ap total after, bounded c)

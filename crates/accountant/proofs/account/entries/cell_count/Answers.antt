@@ -5,4 +5,4 @@ use Rattle.accountant.proofs.Entries.{counts_length}
 use Rattle.accountant.proofs.account.entries.cell_count.Goals as goal
 
 pub returns : goal.returns
-returns c = ap length (c.as-slice.ensures ∙ c.true-counts-counts.ensures) ∙ counts_length (cells (query_of c.args.query.now)) []
+returns c = ap length (c.as_slice.ensures ∙ c.true_counts-counts.ensures) ∙ counts_length (cells (query_of c.args.query.now)) []

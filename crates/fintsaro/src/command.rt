@@ -1,5 +1,5 @@
 // What the words of the command line ask for.
-ghost use Rattle.std.specs.Prelude.{◌≡◌, ◌<◌, ◌≤◌, ◌&&◌, leb, length, IfSome, if◌then◌else◌, Some, None, MatchOption, nat_le};
+ghost use Rattle.std.specs.Prelude.{◌≡◌, ◌<◌, ◌≤◌, ◌&&◌, length, IfSome, if◌then◌else◌, Some, None, MatchOption, nat_le};
 ghost use Rattle.fintsaro.specs.Commands.{Servable};
 
 use roll::MOST_PLACES;
@@ -30,7 +30,7 @@ pub enum Command<'a> {
 
 // A number of places that the desk can serve.
 pub fn served(places: usize) -> Option<usize>
-    ensures { result ≡ (if leb 1 places && nat_le places 32768 then Some places else None) }
+    ensures { result ≡ (if nat_le 1 places && nat_le places 32768 then Some places else None) }
 {
     if places == 0 || places > MOST_PLACES {
         return None;

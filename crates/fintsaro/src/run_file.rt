@@ -70,7 +70,7 @@ pub fn serve_file<'t, J: Journal>(
     journal: &mut J,
 ) -> Result<Budgets, Refusal>
     ensures verdict { refusal_of result ≡ desk_refusal most_places file.old }
-    ensures told { ToldOf notes (is_ok result) file.old tape.now journal.old journal.new }
+    ensures told { ToldOf J.notes (is_ok result) file.old tape.now journal.old journal.new }
     ensures holds { IfOk result (λ b. budgets_of b ≡ (final file.old tape.now).budgets) }
 {
     let Some(parts) = split(file) else {

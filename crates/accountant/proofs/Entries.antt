@@ -5,8 +5,8 @@ use Rattle.std.proofs.lemmas.Bool.Decides.{nat_tests}
 use Rattle.roll.specs.Numbers.{total}
 use Rattle.roll.specs.Predicates.{Predicate}
 use Rattle.roll.specs.Rows.{Row}
-use Rattle.query.specs.Query.{Query, cells, cost, counts}
-use Rattle.budget.specs.Budget.{held, payment_refusal, pay}
+use Rattle.query.specs.Query.{Query, cost, counts}
+use Rattle.budget.specs.Budget.{held, payment_refusal}
 use Rattle.budget.proofs.Payments.{pays}
 use Rattle.curator.proofs.Replies.{left_after}
 use Rattle.accountant.specs.declared.impossible.Flaw.{Flaw}

@@ -7,7 +7,7 @@ use Rattle.query.specs.Query.{Query, cells, cost, counts}
 use Rattle.noise.specs.Dial.{Dial, our_dial}
 use Rattle.noise.specs.Release.{all_released}
 use Rattle.noise.specs.Words.{words_of}
-use Rattle.budget.specs.Budget.{payment_refusal, pay}
+use Rattle.budget.specs.Budget.{payment_refusal}
 use Rattle.curator.specs.Lines.{Command, edit, ask, reject, read_line}
 use Rattle.curator.specs.Curator.{Outcome, answered, edited, refused, State, at_opening, page, verdict, by_verdict, taken, reply, charge, price, paid, outcome, step, Strategy, Commands, commands, transcript, transcript_of, state_after, state_of, spent, spent_of}
 use Rattle.curator.specs.Scripts.{script}

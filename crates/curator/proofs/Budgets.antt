@@ -1,5 +1,5 @@
 -- What is spent leaves the budgets, and never passes what they held.
-use Rattle.std.proofs.Common.{◌≡◌, ℕ, ◌+◌, ◌-◌, ◌/◌, ◌≤◌, Bool, true, false, cond, ltb, List, [], ◌∷◌, ◌++◌, length, get_or, Some, None, Option, refl, zero-le, le_trans, le_refl, add-zero, arith, ltb-false}
+use Rattle.std.proofs.Common.{◌≡◌, ℕ, ◌+◌, ◌-◌, ◌/◌, ◌≤◌, Bool, true, false, cond, ltb, List, [], ◌∷◌, ◌++◌, length, get_or, Some, None, refl, zero-le, le_trans, le_refl, add-zero, arith, ltb-false}
 use Rattle.roll.specs.Numbers.{total}
 use Rattle.query.specs.Query.{Query, cost}
 use Rattle.noise.specs.Dial.{Dial, our_dial}

@@ -1,8 +1,7 @@
 -- A run of a list of lines, followed line by line.
-use Rattle.std.proofs.Common.{◌≡◌, ℕ, zero, suc, ◌+◌, ◌-◌, ◌<◌, ◌≤◌, List, [], ◌∷◌, ◌++◌, map, length, get_or, take, drop, sym, refl, ap, ◌∙◌, subst, append_assoc, append-nil, arith, length-append, length-drop, length-set}
+use Rattle.std.proofs.Common.{◌≡◌, ℕ, suc, ◌+◌, ◌-◌, ◌<◌, ◌≤◌, List, [], ◌∷◌, ◌++◌, map, length, get_or, drop, sym, refl, ap, ◌∙◌, subst, append_assoc, append-nil, arith, length-append, length-drop, length-set}
 use lib.ListN.{length-map}
 use Rattle.std.proofs.lemmas.List.{map-append, get_or-drop, drop-drop}
-use Rattle.roll.specs.Rows.{Row}
 use Rattle.noise.specs.Dial.{our_dial}
 use Rattle.curator.specs.declared.outcome.Outcome.{Outcome as Given}
 use Rattle.curator.specs.Lines.{Command, edit, ask, reject, read_line}

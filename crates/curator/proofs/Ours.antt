@@ -1,6 +1,5 @@
 -- The promises on whole runs by our dial, with tapes counted in bytes.
-use Rattle.std.proofs.Common.{◌≡◌, ℕ, ◌-◌, ◌*◌, ◌/◌, ◌^◌, ◌≤◌, Bool, List, [], length, set, sym, refl, ap, ◌∙◌, mul-le-mul_left, mul_left_comm, length-set}
-use Rattle.roll.specs.Numbers.{total}
+use Rattle.std.proofs.Common.{◌≡◌, ℕ, ◌-◌, ◌*◌, ◌/◌, ◌^◌, ◌≤◌, Bool, List, [], length, set, mul-le-mul_left, mul_left_comm, length-set}
 use Rattle.roll.specs.Rows.{Row}
 use Rattle.weights.specs.Counting.{ways}
 use Rattle.noise.specs.Dial.{our_dial}

@@ -4,7 +4,6 @@ use Rattle.roll.specs.Numbers.{total}
 use Rattle.roll.specs.Rows.{Row}
 use Rattle.weights.specs.Counting.{ways}
 use Rattle.noise.specs.Dial.{Dial, our_dial}
-use Rattle.noise.specs.Words.{words_of}
 use Rattle.curator.specs.Curator.{Outcome, answered, edited, refused, taken, opening, Strategy, Commands, commands, transcript, transcript_of, spent, spent_of, same_transcript, Alike}
 
 -- two strategies that write the same lines for a roll of so many places, but for edits of place i that are taken, whose rows may differ

@@ -1,8 +1,8 @@
 -- The run of a run file with a tape.
 use Rattle.std.specs.Prelude.{◌≡◌, ℕ, Bool, true, false, List, length}
-use Rattle.roll.specs.Rows.{Row, rows_in}
+use Rattle.roll.specs.Rows.{rows_in}
 use Rattle.curator.specs.declared.outcome.Outcome.{Outcome as Given}
-use Rattle.curator.specs.Curator.{Outcome, State, Strategy, transcript_of, state_of}
+use Rattle.curator.specs.Curator.{Outcome, State, transcript_of, state_of}
 use Rattle.curator.specs.Scripts.{lines_in, script, Told}
 use Rattle.fintsaro.specs.Openings.{roll_bytes, budget_bytes, line_bytes}
 

@@ -1,4 +1,4 @@
-use Rattle.std.proofs.Common.{◌≡◌, ◌<◌, length, get_or, ap, ◌∙◌, arith, ltb-false, ltb-true}
+use Rattle.std.proofs.Common.{◌<◌, length, ap, ◌∙◌, arith, ltb-false, ltb-true}
 use Rattle.curator.specs.Served.{kind_byte}
 use Rattle.curator.specs.declared.command.kind.Kind.TheVariants as kind
 use Rattle.curator.proofs.Reading.{no_kind, other_kind, edit_kind, query_kind, same_reading}

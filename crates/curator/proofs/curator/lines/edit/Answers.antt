@@ -1,4 +1,4 @@
-use Rattle.std.proofs.Common.{length, sym, ap, ◌∙◌}
+use Rattle.std.proofs.Common.{ap, ◌∙◌}
 use Rattle.roll.specs.Rows.{rows_of}
 use Rattle.curator.specs.Lines.{edit_unless}
 use Rattle.curator.specs.Curator.{edited_roll}

@@ -5,7 +5,7 @@ import sys
 
 HERE = pathlib.Path(__file__).resolve().parent
 ROOT = HERE.parent
-PROGRAM = ROOT / "target" / "bin" / "fintsaro"
+PROGRAM = ROOT / "crates" / "fintsaro" / "out" / "fintsaro"
 
 
 def stop(text):

@@ -13,12 +13,7 @@ use command::{Command, Files, Options, command_of};
 use curator::Outcome;
 use printer::Printer;
 use run_file::{places_in, serve_file, split};
-use std::fs::File;
-use std::io::Read;
-use std::{env, io};
-
-// How many bytes of a file are read at a time.
-const PART: usize = 8_192;
+use std::{env, fs};
 
 const USAGE: &str = "usage: fintsaro [--places N] [--errors] [--audit] RUN TAPE
 RUN has the opening of a desk and its lines, TAPE its words of chance.
@@ -27,25 +22,9 @@ RUN has the opening of a desk and its lines, TAPE its words of chance.
 --audit     after the run, work out the budgets from public things alone
 ";
 
-// The bytes of a file, read a part at a time into memory of its size.
-fn contents(rt: &HostRuntime, path: &str) -> io::Result<Vec<u8>> {
-    let mut file = File::open(rt, path)?;
-    let size = file.metadata()?.len();
-    let mut bytes = Vec::with_capacity(rt.alloc(), size as usize)?;
-    let mut part = [0; PART];
-    for _ in 0..u64::MAX {
-        let read = file.read(&mut part)?;
-        if read == 0 {
-            break;
-        }
-        bytes.extend_from_slice(&part[0..read])?;
-    }
-    Ok(bytes)
-}
-
 // The bytes of a file; where it cannot be read, that is told.
 fn read_file(rt: &HostRuntime, path: &str) -> anyhow::Result<Vec<u8>> {
-    match contents(rt, path) {
+    match fs::read(rt, path) {
         Ok(bytes) => Ok(bytes),
         Err(e) => {
             eprintln!(rt; "fintsaro: cannot read {path}: {e}")?;

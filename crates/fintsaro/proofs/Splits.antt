@@ -3,7 +3,7 @@ use Rattle.std.proofs.Common.{◌≡◌, ℕ, ◌+◌, ◌*◌, ◌<◌, ◌≤�
 use Rattle.std.proofs.lemmas.List.{take_at, drop_at, get_or_append_left}
 use Rattle.std.proofs.lemmas.Bool.{and_from, and_left, and_right, le-leb, lt-leb}
 use Rattle.std.proofs.lemmas.Bool.Decides.{nat_tests}
-use Rattle.fintsaro.specs.Openings.{places_in, roll_bytes, after_roll, budget_bytes, line_bytes, whole}
+use Rattle.fintsaro.specs.Openings.{place_count, roll_bytes, after_roll, budget_bytes, line_bytes, whole}
 
 -- fewer than two bytes
 pub no_size : (file : List ℕ) → length file < 2 → whole file ≡ false
@@ -15,7 +15,7 @@ module _ (file size rest : List ℕ) (is : file ≡ size ++ rest) (two : length 
   after_size = ap (drop 2) is ∙ drop_at size rest 2 two
 
   -- it is what the first two bytes spell
-  pub places_is : places ≡ places_in file
+  pub places_is : places ≡ place_count file
   places_is =
       let low : get_or file 0 0 ≡ get_or size 0 0 = ap (λ l. get_or l 0 0) is ∙ get_or_append_left size rest 0 0 (omega arith) in
       let high : get_or file 1 0 ≡ get_or size 1 0 = ap (λ l. get_or l 1 0) is ∙ get_or_append_left size rest 0 1 (omega arith) in
@@ -24,19 +24,19 @@ module _ (file size rest : List ℕ) (is : file ≡ size ++ rest) (two : length 
   -- the rows end too soon
   pub no_roll : length rest < 16 * places → whole file ≡ false
   no_roll h =
-      let short : length (drop 2 file) < 16 * places_in file = omega (arith, ap length after_size, places_is) in
-      and_right _ _ (and_left _ _ (lt-leb (16 * places_in file) (length (drop 2 file)) short))
+      let short : length (drop 2 file) < 16 * place_count file = omega (arith, ap length after_size, places_is) in
+      and_right _ _ (and_left _ _ (lt-leb (16 * place_count file) (length (drop 2 file)) short))
 
   -- the rows are there
   module _ (roll more : List ℕ) (rows : rest ≡ roll ++ more) (long : length roll ≡ 16 * places) where
-    whole_roll : length roll ≡ 16 * places_in file
+    whole_roll : length roll ≡ 16 * place_count file
     whole_roll = long ∙ ap (λ n. 16 * n) places_is
 
     pub roll_is : roll_bytes file ≡ roll
-    roll_is = ap (take (16 * places_in file)) (after_size ∙ rows) ∙ take_at roll more _ whole_roll
+    roll_is = ap (take (16 * place_count file)) (after_size ∙ rows) ∙ take_at roll more _ whole_roll
 
     pub after_is : after_roll file ≡ more
-    after_is = ap (drop (16 * places_in file)) (after_size ∙ rows) ∙ drop_at roll more _ whole_roll
+    after_is = ap (drop (16 * place_count file)) (after_size ∙ rows) ∙ drop_at roll more _ whole_roll
 
     -- nothing follows them
     pub no_analysts : length more ≡ 0 → whole file ≡ false
@@ -61,7 +61,7 @@ module _ (file size rest : List ℕ) (is : file ≡ size ++ rest) (two : length 
       pub all_there : analysts ≤ length rest_of → whole file ≡ true
       all_there h =
           let size-there : 2 ≤ length file = omega (arith, ap length is, length-append size rest) in
-          let rows-there : 16 * places_in file ≤ length (drop 2 file) = omega (arith, ap length after_size, ap length rows, length-append roll more, whole_roll) in
+          let rows-there : 16 * place_count file ≤ length (drop 2 file) = omega (arith, ap length after_size, ap length rows, length-append roll more, whole_roll) in
           let one-there : 1 ≤ length (after_roll file) = omega (arith, ap length after_is, ap length counted) in
           let budgets-there : get_or (after_roll file) 0 0 ≤ length (drop 1 (after_roll file)) = omega (arith, ap length after_count, count_is) in
           and_from _ _ (le-leb _ _ size-there) (and_from _ _ (le-leb _ _ rows-there) (and_from _ _ (le-leb _ _ one-there) (le-leb _ _ budgets-there)))

@@ -4,16 +4,16 @@ use Rattle.roll.specs.Rows.{roll_refusal}
 use Rattle.budget.specs.Budget.{opening_refusal}
 
 -- the number of places
-abbrev pub places_in : List ℕ → ℕ
-places_in file = slice_index file 0 + 256 * slice_index file 1
+abbrev pub place_count : List ℕ → ℕ
+place_count file = slice_index file 0 + 256 * slice_index file 1
 
 -- the bytes of the roll
 abbrev pub roll_bytes : List ℕ → List ℕ
-roll_bytes file = take (16 * places_in file) (drop 2 file)
+roll_bytes file = take (16 * place_count file) (drop 2 file)
 
 -- what follows the roll: the number of analysts, their budgets, and the lines
 abbrev pub after_roll : List ℕ → List ℕ
-after_roll file = drop (16 * places_in file) (drop 2 file)
+after_roll file = drop (16 * place_count file) (drop 2 file)
 
 -- the bytes of the budgets
 abbrev pub budget_bytes : List ℕ → List ℕ
@@ -27,14 +27,14 @@ line_bytes file = drop (slice_index (after_roll file) 0) (drop 1 (after_roll fil
 abbrev pub whole : List ℕ → Bool
 whole file =
     nat_le 2 (length file)
-    && (nat_le (16 * places_in file) (length (drop 2 file)) && (nat_le 1 (length (after_roll file)) && nat_le (slice_index (after_roll file) 0) (length (drop 1 (after_roll file)))))
+    && (nat_le (16 * place_count file) (length (drop 2 file)) && (nat_le 1 (length (after_roll file)) && nat_le (slice_index (after_roll file) 0) (length (drop 1 (after_roll file)))))
 
 -- the first of two refusals
-abbrev pub first_of : Option (ℕ × ℕ) → Option (ℕ × ℕ) → Option (ℕ × ℕ)
-first_of None b = b
-first_of (Some a) b = Some a
+abbrev pub first_some : Option (ℕ × ℕ) → Option (ℕ × ℕ) → Option (ℕ × ℕ)
+first_some None b = b
+first_some (Some a) b = Some a
 
 -- the number and the place of the refusal of a run file's opening, if it is refused, where at most so many places are served
 abbrev pub desk_refusal : ℕ → List ℕ → Option (ℕ × ℕ)
 desk_refusal most file =
-    cond (whole file && nat_le (places_in file) most) (first_of (roll_refusal (places_in file) (roll_bytes file)) (opening_refusal (budget_bytes file))) (Some (1, 0))
+    cond (whole file && nat_le (place_count file) most) (first_some (roll_refusal (place_count file) (roll_bytes file)) (opening_refusal (budget_bytes file))) (Some (1, 0))

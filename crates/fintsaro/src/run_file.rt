@@ -2,7 +2,7 @@
 ghost use Rattle.std.specs.Prelude.{◌≡◌, ◌*◌, ◌<◌, true, false, length, is_ok, IfOk, if◌then◌else◌, Some, None, MatchOption, nat_lt};
 ghost use Rattle.roll.specs.Refusals.{refusal_of};
 ghost use Rattle.budget.specs.Budget.{budgets_of};
-ghost use Rattle.fintsaro.specs.Openings.{places_in, roll_bytes, budget_bytes, line_bytes, whole, desk_refusal};
+ghost use Rattle.fintsaro.specs.Openings.{place_count, roll_bytes, budget_bytes, line_bytes, whole, desk_refusal};
 ghost use Rattle.fintsaro.specs.Runs.{final, ToldOf};
 
 use budget::Budgets;
@@ -28,7 +28,7 @@ fn roll_size(places: usize) -> usize
 
 // The parts of a run file, or none where it ends inside its opening.
 pub fn split(file: &mut [u8]) -> Option<Parts<'_>>
-    ensures { MatchOption result (whole file.old ≡ false) (λ p. (whole file.old ≡ true) × (p.places ≡ places_in file.old) × (p.roll.now ≡ roll_bytes file.old) × (p.budgets.now ≡ budget_bytes file.old) × (p.lines.now ≡ line_bytes file.old)) }
+    ensures { MatchOption result (whole file.old ≡ false) (λ p. (whole file.old ≡ true) × (p.places ≡ place_count file.old) × (p.roll.now ≡ roll_bytes file.old) × (p.budgets.now ≡ budget_bytes file.old) × (p.lines.now ≡ line_bytes file.old)) }
 {
     let Some((size, rest)) = file.split_at_mut_checked(2) else {
         return None;
@@ -53,7 +53,7 @@ pub fn split(file: &mut [u8]) -> Option<Parts<'_>>
 
 // The number of places that a run file begins with, if it has so many bytes.
 pub fn places_in(file: &[u8]) -> Option<usize>
-    ensures { result ≡ (if nat_lt (length file.now) 2 then None else Some (places_in file.now)) }
+    ensures { result ≡ (if nat_lt (length file.now) 2 then None else Some (place_count file.now)) }
 {
     let [low, high, ..] = file else {
         return None;

@@ -24,10 +24,10 @@ module _ (bytes : List ℕ) (place : ℕ) (row : Row) where
 
   -- writing the row over the bytes of its place changes that row alone
   pub rows_after :
-      length row ≡ 16 → place < length bytes / 16 → (start : ℕ) (part after : List ℕ) → start ≡ 16 * place → part ≡ row →
-      after ≡ take start bytes ++ (part ++ drop 16 (drop start bytes)) → rows_in after ≡ set (rows_in bytes) place row
-  rows_after size h start part after at is e =
+      length row ≡ 16 → place < length bytes / 16 → (start : ℕ) (after : List ℕ) → start ≡ 16 * place →
+      after ≡ take start bytes ++ (row ++ drop 16 (drop start bytes)) → rows_in after ≡ set (rows_in bytes) place row
+  rows_after size h start after at e =
       let long : 16 * place + 16 ≤ length bytes = omega arith in
-      rw (e, at, is)
+      rw (e, at)
       (ap (λ n. first_chunks 16 (n / 16) (with_run 16 place row bytes)) (length_with_run 16 row size place bytes long)
       ∙ chunked_with_run 16 row size (length bytes / 16) place bytes h (omega arith))

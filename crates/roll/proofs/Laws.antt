@@ -1,9 +1,8 @@
 -- Reading and encoding a predicate are inverse to each other.
-use Rattle.std.proofs.Common.{◌≡◌, ℕ, zero, suc, ◌+◌, ◌-◌, ◌*◌, ◌≤◌, Bool, true, eqb, ltb, List, [], ◌∷◌, ◌++◌, length, sym, refl, ap, ◌∙◌, subst, append_assoc, append-nil, arith, length-append, ltb-false, le-ltb, eqb-true}
+use Rattle.std.proofs.Common.{◌≡◌, ℕ, zero, suc, ◌+◌, ◌-◌, ◌≤◌, true, eqb, ltb, List, [], ◌∷◌, ◌++◌, length, sym, refl, ap, ◌∙◌, subst, append_assoc, append-nil, arith, ltb-false, le-ltb, eqb-true}
 use Rattle.std.proofs.lemmas.Bool.{cond_both}
-use Rattle.roll.specs.Predicates.{Predicate, below, both, negated, encode, tokens, Fields, passes, Begins, Evaluated}
-use Rattle.roll.specs.Reading.{Reading, got, refused, push, join, negate, finish, compare_with, past, parse, read_predicate, first_read, is_got, spells, decoded, bare, ReadsEncoded, EncodesRead}
-use Rattle.roll.specs.Rows.{Row}
+use Rattle.roll.specs.Predicates.{Predicate, below, both, negated, encode, tokens, Fields}
+use Rattle.roll.specs.Reading.{Reading, got, refused, push, join, negate, finish, compare_with, past, parse, read_predicate, first_read, is_got, spells, decoded, ReadsEncoded, EncodesRead}
 
 -- two predicates that were read, made one
 join_push : (p q : Predicate) (r : Reading) → join (push p (push q r)) ≡ push (both p q) r
@@ -16,7 +15,7 @@ negate_push p (got ps) = refl
 negate_push p (refused n k) = refl
 
 -- the bytes of a predicate are read as that predicate, and then the rest
-reads : (end : ℕ) (p : Predicate) (left due : ℕ) (rest : List ℕ) → Fields p → parse end (tokens p + left) (suc due) (encode p ++ rest) ≡ push p (parse end left due rest)
+pub reads : (end : ℕ) (p : Predicate) (left due : ℕ) (rest : List ℕ) → Fields p → parse end (tokens p + left) (suc due) (encode p ++ rest) ≡ push p (parse end left due rest)
 reads end (below f k) left due rest h =
     let one : 1 + left ≡ suc left = omega arith in
     let small : f ≤ 15 = omega arith in
@@ -125,73 +124,12 @@ pub encodes_read : EncodesRead
 unfolding read_predicate
 encodes_read end bs ps e = single bs ps (subst (Good 64 1 bs) e (good end 64 1 bs))
 
--- bytes that spell a predicate and nothing more
-pub record Valid (bs : List ℕ) : Type 0 where
-  pub bytes : bs ≡ encode (decoded bs)
-  pub fields : Fields (decoded bs)
-  pub few : tokens (decoded bs) ≤ 64
-
 -- the bytes of a predicate are decoded as that predicate
 pub decoded_encode : (p : Predicate) → Fields p → tokens p ≤ 64 → decoded (encode p) ≡ p
 unfolding decoded
 decoded_encode p h few = ap first_read (reads_encoded (length (encode p)) p h few)
 
--- the bytes of a predicate are valid
-valid_encode : (bs : List ℕ) (p : Predicate) → bs ≡ encode p → Fields p → tokens p ≤ 64 → Valid bs
-valid_encode bs p e h few =
-    let same : decoded bs ≡ p = ap decoded e ∙ decoded_encode p h few in
-    record { bytes = e ∙ ap encode (sym same); fields = subst Fields (sym same) h; few = subst (λ q. tokens q ≤ 64) (sym same) few }
-
--- what is read is valid
-valid_from : (end : ℕ) (bs : List ℕ) (r : Reading) → read_predicate end bs ≡ r → is_got r ≡ true → Valid bs
-valid_from end bs (got ps) e h = let p = encodes_read end bs ps e in valid_encode bs p.0 p.2 p.3 p.4
-valid_from end bs (refused n k) e h = let z : ◌≡◌ {A = ℕ} 0 1 = cc in absurd (omega arith)
-
--- bytes that spell a predicate are valid
-pub valid : (bs : List ℕ) → spells bs ≡ true → Valid bs
+-- they are those of some predicate
+pub spells_encode : (p : Predicate) → Fields p → tokens p ≤ 64 → spells (encode p) ≡ true
 unfolding spells
-valid bs h = valid_from (length bs) bs (read_predicate (length bs) bs) refl h
-
--- whatever line valid bytes end, they are read as the predicate that they spell
-pub read_valid : (end : ℕ) (bs : List ℕ) → Valid bs → read_predicate end bs ≡ got (decoded bs ∷ [])
-read_valid end bs v = ap (read_predicate end) v.bytes ∙ reads_encoded end (decoded bs) v.fields v.few
-
--- they are read as some predicate
-pub spells_valid : (bs : List ℕ) → Valid bs → spells bs ≡ true
-unfolding spells
-spells_valid bs v = ap is_got (read_valid (length bs) bs v)
-
--- a reading that is not refused gave predicates
-got_bare : (r : Reading) → got [] ≡ bare r → is_got r ≡ true
-got_bare (got ps) h = refl
-got_bare (refused n k) h = let z : ◌≡◌ {A = ℕ} 0 1 = cc in absurd (omega arith)
-
--- bytes that are not refused are valid
-pub accepts : (end : ℕ) (bs : List ℕ) → got [] ≡ bare (read_predicate end bs) → Valid bs
-accepts end bs h = valid_from end bs (read_predicate end bs) refl (got_bare (read_predicate end bs) h)
-
--- a refusal is the reading's own
-pub refuses : (r : Reading) (n k : ℕ) → refused n k ≡ bare r → r ≡ refused n k
-refuses (got ps) n k h = let z : ◌≡◌ {A = ℕ} 0 1 = cc in absurd (omega arith)
-refuses (refused m l) n k h = sym h
-
--- valid bytes begin with their predicate
-pub begins : (bs : List ℕ) → spells bs ≡ true → Begins bs
-begins bs h =
-    let v = valid bs h in
-    record { predicate = decoded bs; rest = []; fields = v.fields; spelled = v.bytes ∙ sym (append-nil (encode (decoded bs))) }
-
--- and their verdict is that predicate's
-pub verdict_is : (bs : List ℕ) (row : Row) (verdict : Bool) (left : List ℕ) → spells bs ≡ true → Evaluated bs row verdict left → verdict ≡ passes (decoded bs) row
-verdict_is bs row verdict left h e =
-    (e (decoded bs) [] ((valid bs h).bytes ∙ sym (append-nil (encode (decoded bs))))).0
-
--- a token has at most three bytes
-length_encode : (p : Predicate) → length (encode p) ≤ 3 * tokens p
-length_encode (below f k) = omega arith
-length_encode (both p q) = omega (arith, length-append (encode p) (encode q), length_encode p, length_encode q)
-length_encode (negated p) = omega (arith, length_encode p)
-
--- so valid bytes fit the array
-pub short : (bs : List ℕ) → Valid bs → length bs ≤ 192
-short bs v = omega (arith, ap length v.bytes, length_encode (decoded bs), v.few)
+spells_encode p h few = ap is_got (reads_encoded (length (encode p)) p h few)

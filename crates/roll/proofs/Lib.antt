@@ -1,7 +1,8 @@
 pub mod Chunks
 pub mod Edits
 pub mod Laws
+pub mod Lists
 pub mod Misfits
-pub mod Opened
-pub mod Steps
+pub mod Scans
+pub mod Sized
 pub mod Totals

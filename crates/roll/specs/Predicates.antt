@@ -1,5 +1,5 @@
 -- Predicates on a row, how many rows of a roll a predicate counts, and the bytes of a predicate.
-use Rattle.std.specs.Prelude.{◌≡◌, ℕ, suc, ◌+◌, ◌<◌, Bool, not, ◌&&◌, List, [], ◌∷◌, ◌++◌, ◌==◌, nat_lt, slice_index}
+use Rattle.std.specs.Prelude.{ℕ, suc, ◌+◌, ◌<◌, Bool, not, ◌&&◌, List, [], ◌∷◌, ◌++◌, ◌==◌, nat_lt, slice_index}
 use Rattle.roll.specs.Numbers.{one_if}
 use Rattle.roll.specs.Rows.{Row}
 
@@ -41,15 +41,3 @@ abbrev pub Fields : Predicate → Type 0
 Fields (below f k) = f < 16
 Fields (both p q) = Fields p × Fields q
 Fields (negated p) = Fields p
-
--- the bytes begin with those of a predicate
-pub record Begins (bytes : List ℕ) : Type 0 where
-  pub predicate : Predicate
-  pub rest : List ℕ
-  pub fields : Fields predicate
-  pub spelled : bytes ≡ encode predicate ++ rest
-
--- whichever predicate the bytes begin with: the verdict says whether the row passes it, and the bytes after it are left
-abbrev pub Evaluated : List ℕ → Row → Bool → List ℕ → Type 0
-Evaluated bytes row verdict left =
-    (p : Predicate) (rest : List ℕ) → bytes ≡ encode p ++ rest → (verdict ≡ passes p row) × (left ≡ rest)

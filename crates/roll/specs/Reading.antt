@@ -86,12 +86,7 @@ spells bs = is_got (read_predicate (length bs) bs)
 unfoldable pub decoded : List ℕ → Predicate
 decoded bs = first_read (read_predicate (length bs) bs)
 
--- a reading without the predicates: only whether it was refused, and how
-abbrev pub bare : Reading → Reading
-bare (got ps) = got []
-bare (refused n k) = refused n k
-
--- the same of what code hands back
+-- whether what code hands back is a refusal, and how
 abbrev pub outcome : {X : Type 0} → Result X Refusal → Reading
 outcome (Ok x) = got []
 outcome (Err e) = refused (number e) (place e)

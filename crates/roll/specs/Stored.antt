@@ -1,26 +1,16 @@
 -- What a predicate in memory stands for, and what its reader hands back.
-use Rattle.std.specs.Prelude.{◌≡◌, ℕ, List, [], ◌∷◌, length, take, drop, Ok, Err, Result}
+use Rattle.std.specs.Prelude.{◌≡◌, ℕ, List, [], ◌∷◌, length, drop, Ok, Err, Result}
 use Rattle.roll.specs.declared.refusal.Refusal.{Refusal}
 use Rattle.roll.specs.declared.predicate.Predicate.{Predicate as Stored}
-use Rattle.roll.specs.declared.predicate.token.Token.{Token}
-use Rattle.roll.specs.declared.predicate.token.Token.TheVariants.{Below, Both, Negated}
+use Rattle.roll.specs.Lists.{listed}
 use Rattle.roll.specs.Predicates.{Predicate}
 use Rattle.roll.specs.Reading.{Reading, got, refused, read_predicate, decoded}
 use Rattle.roll.specs.Refusals.{number, place}
-
--- the byte that a token begins with
-abbrev pub token_byte : Token → ℕ
-token_byte Below = 1
-token_byte Both = 2
-token_byte Negated = 3
-
--- the bytes of a predicate in memory
-abbrev pub spelling : Stored → List ℕ
-spelling s = take s.len s.bytes
+use Rattle.roll.specs.Tokens.{spelling}
 
 -- the predicate that it stands for
 abbrev pub predicate_of : Stored → Predicate
-predicate_of s = decoded (spelling s)
+predicate_of s = decoded (spelling (listed s.tokens))
 
 -- how the part of a line from its place `start` on is read as a predicate
 abbrev pub read_from : List ℕ → ℕ → Reading

@@ -5,5 +5,5 @@ ghost use Rattle.std.specs.Prelude.{◌≡◌, ◌+◌, ◌*◌};
 pub fn two_bytes(low: u8, high: u8) -> usize
     ensures { result ≡ low + 256 * high }
 {
-    low as usize + 256 * high as usize
+    usize::from(u16::from_le_bytes([low, high]))
 }

@@ -1,6 +1,11 @@
-// A predicate on a row, kept as the bytes that it was read from.
-ghost use Rattle.std.specs.Prelude.{◌≡◌, ◌≤◌, true, take};
-ghost use Rattle.roll.specs.Reading.{spells};
+// A predicate on a row, kept as its tokens in the order of the line.
+ghost use Rattle.std.specs.Prelude.{◌≡◌, true};
+ghost use Rattle.roll.specs.Lists.{listed};
+ghost use Rattle.roll.specs.Reading.{spells, decoded};
+ghost use Rattle.roll.specs.Tokens.{spelling, Codes, Codes-prop};
+
+use crate::UpTo;
+use token::Token;
 
 mod evaluating;
 mod laws;
@@ -11,11 +16,13 @@ mod token;
 
 pub use laws::{encodes_read_stands, reads_encoded_stands};
 
-// The first `len` bytes are those of a predicate. It has at most 64 tokens, of at most three bytes each.
+// As many tokens as a predicate may have.
+const TOKENS: usize = 64;
+
+// The tokens are those of one predicate, and each `Both` knows how many of them its first half has: a tree would need memory for each half.
 #[derive(Clone, Copy)]
 pub struct Predicate {
-    bytes: [u8; 192],
-    len: usize,
-    ghost short: { len ≤ 192 },
-    ghost valid: { spells (take len bytes) ≡ true },
+    tokens: UpTo<Token, TOKENS>,
+    ghost valid: { spells (spelling (listed tokens)) ≡ true },
+    ghost sized: { Codes (listed tokens) (decoded (spelling (listed tokens))) } by { Codes-prop (listed tokens) (decoded (spelling (listed tokens))) },
 }

@@ -1,5 +1,5 @@
 // The roll: a row of sixteen numbers for each place, in memory that the caller lends.
-ghost use Rattle.std.specs.Prelude.{◌≡◌, ◌+◌, ◌*◌, ◌/◌, ◌<◌, ◌≤◌, ◌++◌, length, take, drop, is_ok, IfOk, if◌then◌else◌, MatchOption, slice_index, slice_set};
+ghost use Rattle.std.specs.Prelude.{◌≡◌, ◌+◌, ◌*◌, ◌/◌, ◌<◌, ◌≤◌, ◌++◌, length, take, drop, is_ok, IfOk, if◌then◌else◌, MatchOption, nat_lt, slice_index, slice_set};
 ghost use Rattle.roll.specs.Refusals.{refusal_of};
 ghost use Rattle.roll.specs.Rows.{rows_of, rows_in, misfit, roll_refusal, edit_refusal};
 
@@ -17,14 +17,11 @@ pub struct Roll<'a> {
     pub(crate) bytes: &'a mut [u8],
 }
 
-// The row, where it is empty or a household.
-fn fitting(row: &Row) -> Option<&Row>
-    ensures { MatchOption result (1 < slice_index row.now 0) (λ x. (x.now ≡ row.now) × (slice_index x.now 0 ≤ 1)) }
+// Whether the row is neither empty nor a household.
+fn is_misfit(row: &Row) -> bool
+    ensures { result ≡ nat_lt 1 (slice_index row.now 0) }
 {
-    if row[0] > 1 {
-        return None;
-    }
-    Some(row)
+    row[0] > 1
 }
 
 // Where the row of a place starts in so many bytes of rows, if there is such a place.
@@ -37,7 +34,7 @@ fn start_of(bytes: usize, place: usize) -> Option<usize>
     Some(16 * place)
 }
 
-// Writes a row over the sixteen bytes from `start` on.
+// Writes a row over the sixteen bytes from `start` on. What the library's rows for writing leave of the bytes, no contract says.
 fn put(bytes: &mut [u8], start: usize, row: &Row)
     requires { start + 16 ≤ length bytes.old }
     ensures { bytes.new ≡ take start bytes.old ++ (row.now ++ drop 16 (drop start bytes.old)) }
@@ -49,12 +46,10 @@ fn put(bytes: &mut [u8], start: usize, row: &Row)
 fn check_status(rows: &[Row]) -> Result<(), Refusal>
     ensures { refusal_of result ≡ misfit 0 rows.now }
 {
-    for (place, row) in rows.iter().enumerate() {
-        let Some(_) = fitting(row) else {
-            return Err(Refusal::RowStatus(place));
-        };
+    match rows.iter().position(is_misfit) {
+        Some(place) => Err(Refusal::RowStatus(place)),
+        None => Ok(()),
     }
-    Ok(())
 }
 
 impl<'a> Roll<'a> {
@@ -109,9 +104,9 @@ impl Roll<'_> {
         let Some(start) = start_of(self.bytes.len(), place) else {
             return Err(Refusal::EditPlace);
         };
-        let Some(row) = fitting(row) else {
+        if is_misfit(row) {
             return Err(Refusal::EditStatus);
-        };
+        }
         put(self.bytes, start, row);
         Ok(())
     }

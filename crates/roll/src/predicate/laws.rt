@@ -2,15 +2,11 @@
 ghost use Rattle.roll.specs.Reading.{ReadsEncoded, EncodesRead};
 
 // A predicate is read again from the bytes that encode it.
-pub fn reads_encoded_stands() -> u8
+pub fn reads_encoded_stands()
     ensures { ReadsEncoded }
-{
-    0
-}
+{}
 
 // What is read as a predicate has exactly the bytes that encode it.
-pub fn encodes_read_stands() -> u8
+pub fn encodes_read_stands()
     ensures { EncodesRead }
-{
-    0
-}
+{}

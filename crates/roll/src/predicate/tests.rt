@@ -8,10 +8,7 @@ const ROW: Row = [1, 40, 2, 0, 0, 0, 0, 0, 0, 0, 0, 0, 0, 0, 0, 255];
 
 // How the line is refused from the place on.
 fn refusal(line: &[u8], start: usize) -> Option<Refusal> {
-    match Predicate::read(line, start) {
-        Ok(_) => None,
-        Err(e) => Some(e),
-    }
+    Predicate::read(line, start).err()
 }
 
 // One token of each kind, and nesting both ways.

@@ -1,14 +1,15 @@
-use Rattle.std.proofs.Common.{◌≤◌, get_or, sym, ◌∙◌, subst}
-use Rattle.roll.proofs.Misfits.{stops_here, goes_on, finds_none}
+use Rattle.std.proofs.Common.{rules, sym, Some, None}
+use Rattle.std.proofs.lemmas.Iterator.{IsFirst-from_position, YieldsList-from_slice}
+use Rattle.std.proofs.lemmas.Bool.{ltb-true, ltb-false}
+use Rattle.roll.proofs.Misfits.{Misfit, Fits, first_misfit}
 use Rattle.roll.proofs.rows.check_status.Goals as goal
 
-pub returns-in_default : goal.returns-in_default
-returns-in_default c = sym (stops_here _ _ c.loop-place-test.true c.in_default.ensures) ∙ c.loop-place.invariant
+pub returns-in-Some : goal.returns-in-Some
+returns-in-Some c =
+    sym (first_misfit _ (Some c.in-Some.place)
+    (IsFirst-from_position _ _ _ Misfit Fits c.in-Some.ensures.ran (YieldsList-from_slice c.args.rows.now cc) (λ x q k. search (rules, ltb-true)) (λ x q k. search (rules, ltb-false))))
 
-pub loop-place-preserved : goal.loop-place-preserved
-loop-place-preserved c =
-    let fits = c.in-Some.ensures in
-    sym (goes_on _ _ c.loop-place-test.true (subst (λ r. get_or r 0 0 ≤ 1) fits.0 fits.1)) ∙ c.loop-place.invariant
-
-pub returns : goal.returns
-returns c = sym (finds_none _ _ c.loop-place-test.false) ∙ c.loop-place.invariant
+pub returns-in-None : goal.returns-in-None
+returns-in-None c =
+    sym (first_misfit _ None
+    (IsFirst-from_position _ _ _ Misfit Fits c.in-None.ensures.ran (YieldsList-from_slice c.args.rows.now cc) (λ x q k. search (rules, ltb-true)) (λ x q k. search (rules, ltb-false))))

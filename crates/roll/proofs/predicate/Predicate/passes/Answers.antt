@@ -1,8 +1,7 @@
-use Rattle.roll.proofs.Laws.{begins, verdict_is}
+use Rattle.std.proofs.Common.{sym, subst}
+use Rattle.roll.specs.Stored.{predicate_of}
+use Rattle.roll.specs.Tokens.{Codes}
 use Rattle.roll.proofs.predicate.Predicate.passes.Goals as goal
 
 pub evaluate-requires : goal.evaluate-requires
-evaluate-requires c = begins _ c.args.self.now.valid
-
-pub returns : goal.returns
-returns c = verdict_is _ _ _ _ c.args.self.now.valid c.evaluate.ensures
+evaluate-requires c = record { predicate = predicate_of c.args.self.now; codes = subst (λ l. Codes l (predicate_of c.args.self.now)) (sym c.as_slice.ensures) c.args.self.now.sized }

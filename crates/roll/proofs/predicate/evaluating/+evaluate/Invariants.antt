@@ -2,4 +2,4 @@ use Rattle.std.proofs.Common.{length}
 use Rattle.roll.proofs.predicate.evaluating.+evaluate.Given as goal
 
 abbrev pub decreases-evaluate : goal.decreases-evaluate
-decreases-evaluate l = length l.bytes.now
+decreases-evaluate l = length l.tokens.now

@@ -1,15 +1,13 @@
 -- The cell that a value falls in, and what one row more changes in the counts of a table's cells.
-use Rattle.std.proofs.Common.{◌≡◌, ℕ, zero, suc, ◌+◌, ◌-◌, ◌<◌, ◌≤◌, Bool, true, false, cond, not, ◌&&◌, eqb, ltb, List, [], ◌∷◌, ◌++◌, length, get_or, take, set, replicate, Result, sym, refl, ap, ◌∙◌, add-zero, arith, ltb-false, le-ltb, lt-ltb, MatchResult}
-use Rattle.std.specs.List.Sorted.{IsBinarySearchResult}
+use Rattle.std.proofs.Common.{◌≡◌, ℕ, zero, suc, ◌+◌, ◌-◌, ◌<◌, ◌≤◌, Bool, true, false, cond, not, ◌&&◌, eqb, leb, ltb, List, [], ◌∷◌, ◌++◌, length, get_or, take, set, replicate, sym, refl, ap, ◌∙◌, add-zero, arith, ltb-false, le-ltb, lt-ltb}
+use Rattle.std.specs.List.Sorted.{IsPartitionPoint, IsPartitionedBy}
 use Rattle.std.proofs.lemmas.List.{take_at, take_all, take_more, length-take, get_or_append_left, set-append_left, replicate-append-replicate}
-use Rattle.std.proofs.lemmas.Result.{MatchResult-weaker}
-use Rattle.std.proofs.lemmas.List.Sorted.{searched}
-use Rattle.std.proofs.lemmas.Bool.{and_parts, cond_both, not-true}
+use Rattle.std.proofs.lemmas.List.Sorted.{IsPartitionedBy-leb}
+use Rattle.std.proofs.lemmas.Bool.{leb-true, leb-false, and_parts, cond_both, not-true}
 use Rattle.roll.specs.Predicates.{Predicate, below, both, negated, passes, counted, count}
 use Rattle.roll.specs.Rows.{Row}
 use Rattle.query.specs.Lines.{rises}
 use Rattle.query.specs.Query.{cut, counts, cell}
-use Rattle.std.specs.Ordering.{nat_cmp}
 
 -- the cell is the number of cuts from the first on that are not above the value
 cell_at : (ks : List ℕ) (v i : ℕ) → i ≤ length ks → ((j : ℕ) → j < i → get_or ks j 0 ≤ v) → (i < length ks → v < get_or ks i 0) → cell ks v ≡ i
@@ -21,40 +19,32 @@ cell_at (k ∷ ks) v (suc i) le under over =
     (ap suc (cell_at ks v i (omega arith) (λ j h. under (suc j) (omega arith)) (λ h. over (omega arith))))
 
 -- of numbers that rise, none is below the least that the first may be
-rises_low : (low : ℕ) (ks : List ℕ) → rises low ks ≡ true → (j : ℕ) → j < length ks → low ≤ get_or ks j 0
-rises_low low [] e j h = absurd (omega arith)
-rises_low low (k ∷ ks) e zero h =
+rises_low : (low : ℕ) (ks : List ℕ) → rises low ks ≡ true → (j d : ℕ) → j < length ks → low ≤ get_or ks j d
+rises_low low [] e j d h = absurd (omega arith)
+rises_low low (k ∷ ks) e zero d h =
     ltb-false k low (not-true (ltb k low) (and_parts (not (ltb k low)) (rises (k + 1) ks) e).0)
-rises_low low (k ∷ ks) e (suc j) h =
+rises_low low (k ∷ ks) e (suc j) d h =
     let p = and_parts (not (ltb k low)) (rises (k + 1) ks) e in
-    omega (arith, ltb-false k low (not-true (ltb k low) p.0), rises_low (k + 1) ks p.1 j (omega arith))
+    omega (arith, ltb-false k low (not-true (ltb k low) p.0), rises_low (k + 1) ks p.1 j d (omega arith))
 
--- and each is above those before it
-rises_up : (low : ℕ) (ks : List ℕ) → rises low ks ≡ true → (i j : ℕ) → i < j → j < length ks → get_or ks i 0 < get_or ks j 0
-rises_up low [] e i j lt h = absurd (omega arith)
-rises_up low (k ∷ ks) e zero zero lt h = absurd (omega arith)
-rises_up low (k ∷ ks) e zero (suc j) lt h =
-    omega (arith, rises_low (k + 1) ks (and_parts (not (ltb k low)) (rises (k + 1) ks) e).1 j (omega arith))
-rises_up low (k ∷ ks) e (suc i) zero lt h = absurd (omega arith)
-rises_up low (k ∷ ks) e (suc i) (suc j) lt h =
-    rises_up (k + 1) ks (and_parts (not (ltb k low)) (rises (k + 1) ks) e).1 i j (omega arith) (omega arith)
+-- and none is below those before it
+rises_on : (low : ℕ) (ks : List ℕ) → rises low ks ≡ true → (i j d : ℕ) → i ≤ j → j < length ks → get_or ks i d ≤ get_or ks j d
+rises_on low [] e i j d le h = absurd (omega arith)
+rises_on low (k ∷ ks) e zero zero d le h = omega arith
+rises_on low (k ∷ ks) e zero (suc j) d le h =
+    omega (arith, rises_low (k + 1) ks (and_parts (not (ltb k low)) (rises (k + 1) ks) e).1 j d (omega arith))
+rises_on low (k ∷ ks) e (suc i) zero d le h = absurd (omega arith)
+rises_on low (k ∷ ks) e (suc i) (suc j) d le h =
+    rises_on (k + 1) ks (and_parts (not (ltb k low)) (rises (k + 1) ks) e).1 i j d (omega arith) (omega arith)
 
--- or equal where it is the same place
-rises_on : (low : ℕ) (ks : List ℕ) → rises low ks ≡ true → (i j : ℕ) → i ≤ j → j < length ks → get_or ks i 0 ≤ get_or ks j 0
-rises_on low [] e i j le h = absurd (omega arith)
-rises_on low (k ∷ ks) e zero zero le h = omega arith
-rises_on low (k ∷ ks) e zero (suc j) le h =
-    omega (arith, rises_low (k + 1) ks (and_parts (not (ltb k low)) (rises (k + 1) ks) e).1 j (omega arith))
-rises_on low (k ∷ ks) e (suc i) zero le h = absurd (omega arith)
-rises_on low (k ∷ ks) e (suc i) (suc j) le h =
-    rises_on (k + 1) ks (and_parts (not (ltb k low)) (rises (k + 1) ks) e).1 i j (omega arith) (omega arith)
+-- a cut is not above a value up to some cut, and above it from there on
+pub parted : (ks : List ℕ) (v : ℕ) → rises 0 ks ≡ true → IsPartitionedBy (λ k. leb k v) ks
+parted ks v up = IsPartitionedBy-leb (λ k. k) ks v (rises_on 0 ks up)
 
--- a search among cuts that rise finds the cell
-pub found_cell : (ks : List ℕ) (v : ℕ) (r : Result ℕ ℕ) → rises 0 ks ≡ true → IsBinarySearchResult (λ y. nat_cmp y v) ks r → MatchResult r (λ i. (i < length ks) × (cell ks v ≡ i + 1)) (λ i. (i ≤ length ks) × (cell ks v ≡ i))
-found_cell ks v r up found =
-    MatchResult-weaker r (searched ks v r found (rises_on 0 ks up))
-    (λ i h. (h.0, cell_at ks v (i + 1) (omega (arith, h.0)) (λ j lt. omega (arith, h.1, rises_on 0 ks up j i (omega arith) h.0)) (λ lt. omega (arith, h.1, rises_up 0 ks up i (i + 1) (omega arith) lt))))
-    (λ i h. (h.0, cell_at ks v i h.0 (λ j lt. omega (arith, h.1 j lt)) (λ lt. h.2 i (omega arith) lt)))
+-- and where it turns is the cell
+pub cell_from_point : (ks : List ℕ) (v i : ℕ) → i ≤ length ks → IsPartitionPoint (λ k. leb k v ≡ true) (λ k. leb k v ≡ false) ks i → i ≡ cell ks v
+cell_from_point ks v i le point =
+    sym (cell_at ks v i le (λ j lt. leb-true _ _ (point.0 j 0 (omega arith) lt)) (λ lt. leb-false _ _ (point.1 i 0 (omega arith) lt)))
 
 -- a table has one cell more than cuts
 pub length_counts : (p : Predicate) (f : ℕ) (ks : List ℕ) (rs : List Row) → length (counts (cut p f ks) rs) ≡ suc (length ks)

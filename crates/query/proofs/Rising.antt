@@ -1,35 +1,9 @@
 -- What one cut changes for the reader of cuts, and what all of them say.
-use Rattle.std.proofs.Common.{◌≡◌, ℕ, zero, suc, ◌+◌, ◌-◌, ◌<◌, ◌≤◌, true, not, ◌&&◌, ltb, List, [], ◌∷◌, ◌++◌, length, get_or, take, drop, Ok, Err, Result, refl, ap, ◌∙◌, arith, le-ltb, lt-ltb}
-use Rattle.std.proofs.lemmas.List.{take_rest}
+use Rattle.std.proofs.Common.{◌≡◌, ℕ, zero, suc, ◌+◌, ◌-◌, ◌≤◌, true, not, ◌&&◌, ltb, List, [], ◌∷◌, ◌++◌, length, take, refl, ap, ◌∙◌, arith}
 use Rattle.std.proofs.lemmas.Bool.{and_parts, cond_both, not-true}
-use Rattle.roll.specs.declared.refusal.Refusal.{Refusal}
 use Rattle.roll.specs.Predicates.{below}
-use Rattle.query.specs.Asked.{Check}
 use Rattle.query.specs.Lines.{Asking, asked, malformed, rising, rises}
 use Rattle.query.specs.Query.{Query, count_of}
-
-module _ (end low : ℕ) (x : Asking) where
-  -- the line ends where a cut is due
-  pub ends : (n : ℕ) (bs : List ℕ) → 0 < n → length bs < 1 → rising end low n bs x ≡ malformed 9 end
-  ends zero bs some none = absurd (omega arith)
-  ends (suc n) [] some none = refl
-  ends (suc n) (k ∷ bs) some none = absurd (omega arith)
-
-  -- a cut is not above the one before
-  pub falls : (n : ℕ) (bs : List ℕ) → 0 < n → 0 < length bs → get_or bs 0 0 < low → rising end low n bs x ≡ malformed 13 (end - length bs)
-  falls zero bs some more lt = absurd (omega arith)
-  falls (suc n) [] some more lt = absurd (omega arith)
-  falls (suc n) (k ∷ bs) some more lt = rw (lt-ltb k low lt)
-
-  -- a cut is right, and m cuts are left
-  pub goes_on : (n m next : ℕ) (bs : List ℕ) → n ≡ suc m → 0 < length bs → low ≤ get_or bs 0 0 → next ≡ get_or bs 0 0 + 1 → rising end low n bs x ≡ rising end next m (take (length bs - 1) (drop 1 bs)) x
-  goes_on n m next [] some more le up = absurd (omega arith)
-  goes_on n m next (k ∷ bs) some more le up = rw (some, up, take_rest (k ∷ bs) 1, le-ltb k low le)
-
--- a check goes the same way for the same reading
-pub check_same : {X : Type 0} (r : Result X Refusal) (f g : Asking → Asking) → ((x : Asking) → g x ≡ f x) → Check r f → Check r g
-check_same (Ok v) f g same h = λ x. same x ∙ h x
-check_same (Err e) f g same h = λ x. same x ∙ h x
 
 -- where reading goes past the cuts, they are all there and rise, and the reading is of what follows
 pub record Risen (low n : ℕ) (bs : List ℕ) (x y : Asking) : Type 0 where

@@ -1,4 +1,5 @@
 pub mod Asked
+pub mod Kinds
 pub mod Lines
 pub mod Query
 pub mod Statements

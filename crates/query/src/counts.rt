@@ -1,19 +1,21 @@
 // The true counts of a query's cells.
-ghost use Rattle.std.specs.Prelude.{◌≡◌, ◌≤◌, take};
+ghost use Rattle.std.specs.Prelude.{◌≡◌};
+ghost use Rattle.roll.specs.Lists.{listed};
 
-// The first `len` numbers are the counts, at most 64 of them.
+use roll::UpTo;
+
+// As many cells as a query has at most.
+pub(crate) const CELLS: usize = 64;
+
+// The counts, in the order of the cells. They have a type of their own, so that none is taken for a number released.
 #[derive(Clone, Copy)]
-pub struct Counts {
-    pub(crate) counts: [usize; 64],
-    pub(crate) len: usize,
-    ghost few: { len ≤ 64 },
-}
+pub struct Counts(pub(crate) UpTo<usize, CELLS>);
 
 impl Counts {
     // The counts, in the order of the cells.
     pub fn as_slice(&self) -> &[usize]
-        ensures { result.now ≡ take self.now.len self.now.counts }
+        ensures { result.now ≡ listed self.now.0 }
     {
-        &self.counts[0..self.len]
+        self.0.as_slice()
     }
 }

@@ -1,15 +1,16 @@
 // The numbers that a table is cut at.
-ghost use Rattle.std.specs.Prelude.{◌≡◌, ◌<◌, ◌≤◌, true, take};
+ghost use Rattle.std.specs.Prelude.{◌≡◌, ◌<◌, true, length};
+ghost use Rattle.roll.specs.Lists.{listed};
 ghost use Rattle.query.specs.Lines.{rises};
+
+use roll::UpTo;
 
 mod reading;
 
-// The first `len` bytes are cuts, 1 to 63 of them, each above the one before.
+// 1 to 63 cuts, each above the one before.
 #[derive(Clone, Copy)]
 pub struct Cuts {
-    bytes: [u8; 63],
-    len: usize,
-    ghost some: { 0 < len },
-    ghost few: { len ≤ 63 },
-    ghost rising: { rises 0 (take len bytes) ≡ true },
+    cuts: UpTo<u8, 63>,
+    ghost some: { 0 < length (listed cuts) },
+    ghost rising: { rises 0 (listed cuts) ≡ true },
 }

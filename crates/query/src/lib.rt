@@ -3,7 +3,6 @@
 
 mod counts;
 mod cuts;
-mod field;
 mod laws;
 mod query;
 #[cfg(test)]
@@ -11,9 +10,9 @@ mod tests;
 
 pub use counts::Counts;
 pub use cuts::Cuts;
-pub use field::Field;
 pub use laws::{
     cells_disjoint_stands, disjoint_cells_stands, one_row_stands, query_encodes_read_stands,
     query_reads_encoded_stands,
 };
 pub use query::{Asked, Query};
+pub use roll::Field;

@@ -1,6 +1,6 @@
 // A query that was read, and who asks it.
-use crate::{Cuts, Field};
-use roll::Predicate;
+use crate::Cuts;
+use roll::{Field, Predicate};
 
 mod counting;
 mod kind;

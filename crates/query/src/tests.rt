@@ -10,10 +10,7 @@ const fn place(taken: u8, age: u8, children: u8) -> Row {
 
 // How the line is refused.
 fn refusal(line: &[u8]) -> Option<Refusal> {
-    match Query::read(line) {
-        Ok(_) => None,
-        Err(e) => Some(e),
-    }
+    Query::read(line).err()
 }
 
 // A count and two tables over five places, one of them empty.

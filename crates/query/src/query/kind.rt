@@ -1,24 +1,25 @@
 // The kinds of a query.
-ghost use Rattle.std.specs.Prelude.{◌≡◌, MatchOption, ◌≢◌};
-ghost use Rattle.query.specs.Asked.{kind_byte};
-ghost use Rattle.query.specs.declared.query.kind.Kind.{Kind};
+ghost use Rattle.query.specs.Kinds.{KindOf};
+
+use roll::Refusal;
 
 // Whether a count or a table is asked for.
-#[derive(Clone, Copy)]
+#[derive(Clone, Copy, Debug, PartialEq, Eq)]
 pub(super) enum Kind {
     Count,
     Table,
 }
 
-impl Kind {
-    // The kind that the byte stands for.
-    pub(super) fn of(byte: u8) -> Option<Kind>
-        ensures { MatchOption result ((k : Kind) → byte ≢ kind_byte k) (λ k. byte ≡ kind_byte k) }
-    {
+impl TryFrom<u8> for Kind {
+    type Error = Refusal;
+
+    ghost try_from_gives = { KindOf };
+
+    fn try_from(byte: u8) -> Result<Kind, Refusal> {
         match byte {
-            1 => Some(Kind::Count),
-            2 => Some(Kind::Table),
-            _ => None,
+            1 => Ok(Kind::Count),
+            2 => Ok(Kind::Table),
+            _ => Err(Refusal::QueryKind),
         }
     }
 }

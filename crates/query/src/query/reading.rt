@@ -1,72 +1,49 @@
 // Reading a query from the bytes of a line.
-ghost use Rattle.std.specs.Prelude.{◌≡◌, ◌<◌, ◌≤◌, true, ◌||◌, length, drop, MatchOption, ◌==◌, nat_lt};
-ghost use Rattle.query.specs.Asked.{Answered, CutAs};
+ghost use Rattle.std.specs.Prelude.{◌≡◌, ◌<◌, ◌≤◌, true, ◌||◌, MatchOption, ◌==◌, nat_lt};
+ghost use Rattle.query.specs.Asked.{Answered, ReadAs};
 ghost use Rattle.query.specs.Lines.{count_line, table_line, read_query};
 
 use super::kind::Kind;
 use super::{Asked, Query};
-use crate::{Cuts, Field};
-use roll::{Predicate, Refusal};
+use crate::Cuts;
+use roll::{Field, Predicate, Refusal, Rest};
 
-// The bytes of a line before a count's predicate, and before a table's field.
-const HEAD: usize = 3;
-
-// The number of cuts, where a table may have so many.
+// The number of cuts, where a table may have so many. It is read and used once, so it has no type of its own.
 fn cut_count(byte: u8) -> Option<usize>
     ensures { MatchOption result ((byte == 0 || nat_lt 63 byte) ≡ true) (λ n. (n ≡ byte) × (0 < byte) × (byte ≤ 63)) }
 {
     match byte {
-        1..=63 => Some(byte as usize),
+        1..=63 => Some(usize::from(byte)),
         _ => None,
     }
 }
 
-// The field and the cuts of a table; the bytes end a line of `end` bytes.
-fn read_cuts(bytes: &[u8], end: usize) -> Result<(Field, Cuts), Refusal>
-    ensures { CutAs result end bytes.now }
-{
-    let [field, rest @ ..] = bytes else {
-        return Err(Refusal::LineEnds(end));
-    };
-    let Some(field) = Field::of(*field) else {
-        return Err(Refusal::TableField);
-    };
-    let [n, rest @ ..] = rest else {
-        return Err(Refusal::LineEnds(end));
-    };
-    let Some(n) = cut_count(*n) else {
-        return Err(Refusal::CutCount);
-    };
-    let cuts = Cuts::read(rest, end, n)?;
-    Ok((field, cuts))
-}
-
 // A count: its predicate to the end of the line.
-fn read_count(analyst: u8, line: &[u8]) -> Result<Asked, Refusal>
-    ensures { Answered result (count_line (length line.now) analyst (drop 3 line.now)) }
+fn read_count(rest: Rest) -> Result<Query, Refusal>
+    ensures { ReadAs result (λ a. count_line rest.entry.end a rest.entry.bytes.now) }
 {
-    let predicate = Predicate::read(line, HEAD)?;
-    Ok(Asked {
-        analyst,
-        query: Query::Count { predicate },
-    })
+    let predicate = Predicate::parse(rest)?;
+    Ok(Query::Count { predicate })
 }
 
 // A table: its field and its cuts, and its predicate to the end of the line.
-fn read_table(analyst: u8, line: &[u8]) -> Result<Asked, Refusal>
-    requires { 3 ≤ length line.now }
-    ensures { Answered result (table_line (length line.now) analyst (drop 3 line.now)) }
+fn read_table(rest: Rest) -> Result<Query, Refusal>
+    ensures { ReadAs result (λ a. table_line rest.entry.end a rest.entry.bytes.now) }
 {
-    let (_, rest) = line.split_at(HEAD);
-    let (field, cuts) = read_cuts(rest, line.len())?;
-    let predicate = Predicate::read(line, HEAD + 2 + cuts.len())?;
-    Ok(Asked {
-        analyst,
-        query: Query::Table {
-            predicate,
-            field,
-            cuts,
-        },
+    let (field, rest) = rest.byte()?;
+    let Ok(field) = Field::try_from(field) else {
+        return Err(Refusal::TableField);
+    };
+    let (n, rest) = rest.byte()?;
+    let Some(n) = cut_count(n) else {
+        return Err(Refusal::CutCount);
+    };
+    let (cuts, rest) = Cuts::read(rest, n)?;
+    let predicate = Predicate::parse(rest)?;
+    Ok(Query::Table {
+        predicate,
+        field,
+        cuts,
     })
 }
 
@@ -75,15 +52,13 @@ impl Query {
     pub fn read(line: &[u8]) -> Result<Asked, Refusal>
         ensures { Answered result (read_query line.now) }
     {
-        let [_, analyst, byte, ..] = line else {
-            return Err(Refusal::LineEnds(line.len()));
+        let (_, rest) = Rest::of(line).byte()?;
+        let (analyst, rest) = rest.byte()?;
+        let (kind, rest) = rest.byte()?;
+        let query = match Kind::try_from(kind)? {
+            Kind::Count => read_count(rest)?,
+            Kind::Table => read_table(rest)?,
         };
-        let Some(kind) = Kind::of(*byte) else {
-            return Err(Refusal::QueryKind);
-        };
-        match kind {
-            Kind::Count => read_count(*analyst, line),
-            Kind::Table => read_table(*analyst, line),
-        }
+        Ok(Asked { analyst, query })
     }
 }

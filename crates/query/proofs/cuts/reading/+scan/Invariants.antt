@@ -1,0 +1,4 @@
+use Rattle.query.proofs.cuts.reading.+scan.Given as goal
+
+abbrev pub decreases-scan : goal.decreases-scan
+decreases-scan l = l.n

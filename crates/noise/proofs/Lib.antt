@@ -6,3 +6,5 @@ pub mod Bytes
 pub mod Ours
 pub mod Reading
 pub mod Turns
+pub mod Finding
+pub mod Cells

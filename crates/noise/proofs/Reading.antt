@@ -1,6 +1,6 @@
 -- Words read from bytes, one after the other and as parts of a page.
-use Rattle.std.proofs.Common.{◌≡◌, ℕ, zero, suc, ◌+◌, ◌-◌, ◌*◌, ◌/◌, ◌≤◌, List, [], ◌∷◌, length, get_or, take, drop, sym, refl, ap, ◌∙◌, arith}
-use Rattle.std.proofs.lemmas.List.{drop-drop, drop_all}
+use Rattle.std.proofs.Common.{◌≡◌, ℕ, zero, suc, ◌+◌, ◌-◌, ◌*◌, ◌/◌, ◌≤◌, List, [], ◌∷◌, length, get_or, take, drop, sym, refl, ap, ◌∙◌, ap₂, arith}
+use Rattle.std.proofs.lemmas.List.{drop-drop, drop-take, drop_all, take-take}
 use Rattle.noise.specs.Words.{word_of, first_words, words_of}
 
 -- one byte of a word, and those above it
@@ -26,12 +26,21 @@ eight_bytes bytes e =
     omega (arith, at 0, at 1, at 2, at 3, at 4, at 5, at 6, at 7)
 
 -- the first word, then the others
-pub words_more : (n k : ℕ) (bytes : List ℕ) → k ≡ suc n → first_words k bytes ≡ word_of (take 8 bytes) ∷ first_words n (drop 8 bytes)
+words_more : (n k : ℕ) (bytes : List ℕ) → k ≡ suc n → first_words k bytes ≡ word_of (take 8 bytes) ∷ first_words n (drop 8 bytes)
 unfolding first_words
 words_more n k bytes e = ap (λ j. first_words j bytes) e
 
+-- the first n words are read from 8 n bytes
+pub words_front : (n : ℕ) (bytes : List ℕ) → first_words n (take (8 * n) bytes) ≡ first_words n bytes
+unfolding first_words
+words_front zero bytes = refl
+words_front (suc n) bytes =
+    ap (λ m. first_words (suc n) (take m bytes)) (omega arith)
+    ∙ ap₂ (λ x l. word_of x ∷ first_words n l) (take-take 8 (8 + 8 * n) bytes (omega arith)) (drop-take 8 (8 * n) bytes)
+    ∙ ap (λ l. word_of (take 8 bytes) ∷ l) (words_front n (drop 8 bytes))
+
 -- the words from the m-th on lie in the bytes from the 8m-th on
-words_drop : (m n k : ℕ) (bytes : List ℕ) → k ≡ m + n → drop m (first_words k bytes) ≡ first_words n (drop (8 * m) bytes)
+pub words_drop : (m n k : ℕ) (bytes : List ℕ) → k ≡ m + n → drop m (first_words k bytes) ≡ first_words n (drop (8 * m) bytes)
 words_drop zero n k bytes e = ap (λ j. first_words j bytes) (omega arith)
 words_drop (suc m) n k bytes e =
     ap (drop (suc m)) (words_more (k - 1) k bytes (omega arith))
@@ -39,7 +48,7 @@ words_drop (suc m) n k bytes e =
     ∙ ap (first_words n) (drop-drop (8 * m) 8 bytes ∙ ap (λ j. drop j bytes) (omega arith))
 
 -- the first m of the first k words
-words_take : (m k : ℕ) (bytes : List ℕ) → m ≤ k → take m (first_words k bytes) ≡ first_words m bytes
+pub words_take : (m k : ℕ) (bytes : List ℕ) → m ≤ k → take m (first_words k bytes) ≡ first_words m bytes
 unfolding first_words
 words_take zero k bytes h = refl
 words_take (suc m) zero bytes h = absurd (omega arith)

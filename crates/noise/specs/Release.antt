@@ -1,5 +1,5 @@
 -- The numbers released for true counts, from words of chance.
-use Rattle.std.specs.Prelude.{ℕ, ◌+◌, ◌%◌, cond, List, [], ◌∷◌, length, take, drop, Some, None, Option, nat_le, nat_lt}
+use Rattle.std.specs.Prelude.{ℕ, ◌+◌, ◌%◌, cond, List, [], ◌∷◌, length, take, drop, Some, None, Option, unwrap_or, nat_le, nat_lt}
 use Rattle.roll.specs.Numbers.{total}
 use Rattle.weights.specs.Ring.{offset_of}
 use Rattle.noise.specs.Dial.{Dial, ring, bound, our_dial}
@@ -9,6 +9,10 @@ use Rattle.noise.specs.Words.{first_words}
 unfoldable pub released : Dial → ℕ → List ℕ → ℕ
 released d c [] = ring d
 released d c (x ∷ xs) = cond (nat_lt x (bound d)) ((c + offset_of d.weights (x % total d.weights)) % ring d) (released d c xs)
+
+-- the number that stands for what is released by our dial: a place of the ring for itself, and the ring's size for none
+abbrev pub released_number : Option ℕ → ℕ
+released_number r = unwrap_or r 65536
 
 -- the numbers released for the counts of some cells, each from the next words of the page
 unfoldable pub all_released : Dial → List ℕ → List ℕ → List ℕ

@@ -1,6 +1,5 @@
 -- Words read from bytes, eight at a time, low byte first.
-use Rattle.std.specs.Prelude.{◌≡◌, ℕ, zero, suc, ◌+◌, ◌*◌, ◌/◌, ◌<◌, ◌≤◌, List, [], ◌∷◌, length, take, drop, Option, MatchOption}
-use Rattle.std.specs.Borrow.{Bor}
+use Rattle.std.specs.Prelude.{ℕ, zero, suc, ◌+◌, ◌*◌, ◌/◌, List, [], ◌∷◌, length, take, drop}
 
 -- the number that some bytes spell, low byte first
 unfoldable pub word_of : List ℕ → ℕ
@@ -15,7 +14,3 @@ first_words (suc n) bytes = word_of (take 8 bytes) ∷ first_words n (drop 8 byt
 -- all whole words
 unfoldable pub words_of : List ℕ → List ℕ
 words_of bytes = first_words (length bytes / 8) bytes
-
--- the first word of some bytes with the bytes after it, or none where they are fewer than eight
-abbrev pub FirstWord : List ℕ → Option (ℕ × Bor (List ℕ)) → Type 0
-FirstWord bytes r = MatchOption r (length bytes < 8) (λ p. (8 ≤ length bytes) × (p.0 ≡ word_of (take 8 bytes)) × (p.1.now ≡ drop 8 bytes))

@@ -1,5 +1,5 @@
 // The numbers released for the cells of one query.
-ghost use Rattle.std.specs.Prelude.{ℕ, ◌≤◌, slice_index};
+use roll::UpTo;
 
 mod all;
 
@@ -8,11 +8,8 @@ pub use all::release_all;
 // How many cells a page serves, and a query has at most.
 const CELLS: usize = 64;
 
-// The first `len` entries are the numbers, each a place of the ring or its size, for none.
+// What is released for each cell: a place of the ring, or none.
 #[derive(Clone, Copy)]
 pub struct Released {
-    numbers: [u32; CELLS],
-    len: usize,
-    ghost few: { len ≤ 64 },
-    ghost places: { ((k : ℕ) → slice_index numbers k ≤ 65536) },
+    numbers: UpTo<Option<u16>, CELLS>,
 }

@@ -24,7 +24,7 @@ const LEVEL_WEIGHT: u64 = 4;
 // The sum of the weights of the places 120 to 65,416, which all have that weight.
 const LEVEL_TOTAL: u64 = 261_188;
 
-// The offset of the draw among these weights laid end to end, or what is left of it past them.
+// The offset of the draw among these weights laid end to end, or what is left of it past them. The number of a weight is its offset.
 fn walk(weights: &[u64], u: u64) -> Result<usize, u64>
     ensures { result ≡ walked weights.now u }
 {
@@ -38,7 +38,7 @@ fn walk(weights: &[u64], u: u64) -> Result<usize, u64>
     Err(left)
 }
 
-// The offset of a draw, or none for a number that is no draw.
+// The offset of a draw, or none for a number that is no draw. Each cast is proved to lose nothing; a `try_from` would refuse what cannot come.
 pub fn offset(u: u64) -> Option<u16>
     ensures { result ≡ our_offset u }
 {
@@ -46,7 +46,7 @@ pub fn offset(u: u64) -> Option<u16>
         return None;
     }
     let table = decaying();
-    let rest = match walk(&table[0..LEVEL_FROM], u) {
+    let rest = match walk(&table[..LEVEL_FROM], u) {
         Ok(place) => return Some(place as u16),
         Err(rest) => rest,
     };
@@ -61,39 +61,29 @@ pub fn offset(u: u64) -> Option<u16>
 }
 
 // Of the draws just as many have an offset as its place weighs.
-pub fn falls_stands() -> u8
+pub fn falls_stands()
     ensures { Falls }
-{
-    0
-}
+{}
 
 // The neighbours' rule for every decay a/b below 1.
-pub fn decay_near_stands() -> u8
+pub fn decay_near_stands()
     ensures { DecayNear }
-{
-    0
-}
+{}
 
 // Neighbours on our ring have weights a and b with 4a ≤ 5b and 4b ≤ 5a.
-pub fn neighbours_stands() -> u8
+pub fn neighbours_stands()
     ensures { Neighbours }
-{
-    0
-}
+{}
 
 // The places of our ring, where its weights rest, their sum, and the words that are not rejected.
-pub fn our_numbers_stands() -> u8
+pub fn our_numbers_stands()
     ensures { OurNumbers }
-{
-    0
-}
+{}
 
 // Where the draws at the edges of its first places fall.
-pub fn our_draws_stands() -> u8
+pub fn our_draws_stands()
     ensures { OurDraws }
-{
-    0
-}
+{}
 
 #[cfg(test)]
 mod tests {

@@ -1,23 +1,25 @@
 // The numbers released for all cells of a query, from one page.
-ghost use Rattle.std.specs.Prelude.{◌≡◌, length};
+ghost use Rattle.std.specs.Prelude.{◌≡◌, length, map};
+ghost use Rattle.noise.specs.Release.{released_number};
 ghost use Rattle.noise.specs.Released.{ReleasedAll, numbers_of};
 
 use super::{CELLS, Released};
-use crate::{CELL_BYTES, Page, release};
+use crate::{CELL_BYTES, Page, cell_number};
+use roll::UpTo;
 
 impl Released {
-    // The numbers, cell by cell.
-    pub fn as_slice(&self) -> &[u32]
-        ensures { result.now ≡ numbers_of self.now }
+    // What is released, cell by cell.
+    pub fn as_slice(&self) -> &[Option<u16>]
+        ensures { map released_number result.now ≡ numbers_of self.now }
     {
-        &self.numbers[0..self.len]
+        self.numbers.as_slice()
     }
 
     // How many there are.
     pub fn len(&self) -> usize
         ensures { result ≡ length (numbers_of self.now) }
     {
-        self.as_slice().len()
+        self.numbers.len()
     }
 }
 
@@ -25,13 +27,12 @@ impl Released {
 pub fn release_all(counts: &[usize], page: &Page) -> Option<Released>
     ensures { ReleasedAll counts.now page.now result }
 {
-    let len = counts.len();
-    if len > CELLS {
+    if counts.len() > CELLS {
         return None;
     }
-    let mut numbers = [0; CELLS];
-    for (i, count) in counts.iter().enumerate() {
-        numbers[i] = release(*count, &page[CELL_BYTES * i..])?;
+    let mut numbers = UpTo::new();
+    for (count, cell) in counts.iter().zip(page.as_chunks::<CELL_BYTES>().0) {
+        numbers.push(cell_number(*count, cell)).ok()?;
     }
-    Some(Released { numbers, len })
+    Some(Released { numbers })
 }

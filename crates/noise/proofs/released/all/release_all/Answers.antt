@@ -1,33 +1,47 @@
-use Rattle.std.proofs.Common.{◌≡◌, ◌-◌, ◌*◌, length, get_or, take, drop, Some, refl, ap, ◌∙◌, arith, length-set, take_all, rules}
-use Rattle.noise.specs.Dial.{our_dial}
-use Rattle.noise.specs.Release.{all_released, our_release}
-use Rattle.noise.specs.Words.{words_of}
-use Rattle.noise.proofs.Turns.{at_most_65536, of_cell, cell_more, zeros_below, set_below}
+use Rattle.std.proofs.Common.{rules, ◌≡◌, ◌/◌, ◌++◌, ◌⊎◌, [], ◌∷◌, length, map, arith, ap, ap₂, ◌∙◌, sym, append-nil, length-append}
+use Rattle.std.specs.Slice.Iter.{iter_rest}
+use Rattle.std.specs.Simd.{first_chunks}
+use Rattle.roll.specs.Lists.{listed}
+use Rattle.noise.specs.Release.{released_number}
+use Rattle.noise.proofs.Cells.{from_cells, page_cells, cell_more, none_left}
 use Rattle.noise.proofs.released.all.release_all.Goals as goal
 
-pub loop-i-init : goal.loop-i-init
-unfolding all_released
-loop-i-init c = (refl, refl, zeros_below 64 65536)
-
-pub loop-i-preserved : goal.loop-i-preserved
-loop-i-preserved c =
-    let inv = c.loop-i.invariant in
+pub loop-count-init : goal.loop-count-init
+loop-count-init c =
     let page = c.args.page.now in
-    let i = c.loop-i.i in
-    let told = c.in_ok-numbers.ensures in
-    let part : Some c.in_ok-numbers.field-0 ≡ our_release (get_or c.args.counts.now i 0) (take (2048 - 32 * i) (drop (32 * i) page)) = search rules in
-    let own = of_cell _ _ page i (32 * i) (2048 - 32 * i) part refl (omega arith) (omega arith) in
-    (length-set _ _ _ ∙ inv.0, cell_more _ _ _ _ _ c.loop-i-test.true (omega arith) inv.1 own, set_below _ _ _ 65536 inv.2 (rw own (at_most_65536 _ _)))
+    let none : listed c.new-numbers.result ≡ [] = c.new-numbers.ensures in
+    let counts : iter_rest c.into_iter-count-iterator.result.a ≡ c.args.counts.now = search rules in
+    let cells : iter_rest c.into_iter-count-iterator.result.b ≡ first_chunks 32 (length page / 32) page = search rules in (
+      ap (λ l. map released_number l ++ from_cells (iter_rest c.into_iter-count-iterator.result.a) (iter_rest c.into_iter-count-iterator.result.b)) none
+          ∙ ap₂ from_cells counts cells
+          ∙ page_cells c.args.counts.now page _ (omega arith) (omega arith) (omega arith),
+      omega (arith, ap length none, ap length counts),
+    )
 
-pub invariant_of-result : goal.invariant_of-result
-invariant_of-result c = record { few = omega arith; places = c.loop-i.invariant.2 }
+pub loop-count-preserved : goal.loop-count-preserved
+loop-count-preserved c =
+    let (first, second) = c.in-Some.ensures.steps in
+    let before = listed c.loop-count.numbers in
+    let number = c.cell_number.result in
+    let pushed : listed c.push.new.self ≡ before ++ number ∷ [] = search rules in (
+      cell_more before (listed c.push.new.self) number pushed first second c.cell_number.ensures c.loop-count.invariant.0,
+      omega (arith, ap length pushed, length-append before (number ∷ []), ap length first, c.loop-count.invariant.1),
+    )
+
+pub returns-in_err-ok : goal.returns-in_err-ok
+returns-in_err-ok c =
+    let (first, second) = c.in-Some.ensures.steps in
+    let full : length (listed c.loop-count.numbers) ≡ 64 = search rules in
+    rw c.from_residual.ensures (omega (arith, ap length first, c.loop-count.invariant.1))
 
 pub returns : goal.returns
 returns c =
-    let counts = c.args.counts.now in
-    let last : length counts ≡ c.loop-i.i = omega arith in (
+    let counts = iter_rest c.loop-count.count-iterator.a in
+    let cells = iter_rest c.loop-count.count-iterator.b in
+    let ended : (length counts ≡ 0) ⊎ (length cells ≡ 0) = search rules in
+    let numbers = map released_number (listed c.loop-count.numbers) in (
       omega arith,
-      ap (λ n. take n c.loop-i.numbers) last
-          ∙ c.loop-i.invariant.1
-          ∙ ap (λ l. all_released our_dial l (words_of c.args.page.now)) (take_all _ counts c.loop-i-test.false),
+      sym (append-nil numbers)
+          ∙ ap (λ l. numbers ++ l) (sym (none_left counts cells ended))
+          ∙ c.loop-count.invariant.0,
     )

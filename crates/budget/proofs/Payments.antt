@@ -1,10 +1,8 @@
 -- What is paid leaves the budgets, and what each analyst then holds.
-use Rattle.std.proofs.Common.{◌≡◌, ℕ, zero, suc, ◌-◌, ◌<◌, ◌≤◌, List, [], ◌∷◌, length, get_or, take, drop, set, Some, None, ap, ◌∙◌, arith, length-take, length-take-le, get_or-take}
-use lib.Seq.{take-set-lt}
-use Rattle.std.proofs.lemmas.List.{drop-set-lt}
+use Rattle.std.proofs.Common.{◌≡◌, ℕ, zero, suc, ◌-◌, ◌<◌, List, [], ◌∷◌, length, get_or, set, Some, ap, ◌∙◌, arith}
 use Rattle.std.proofs.lemmas.Bool.Decides.{nat_tests}
 use Rattle.roll.specs.Numbers.{total}
-use Rattle.budget.specs.Budget.{held, payment_refusal, pay}
+use Rattle.budget.specs.Budget.{held, pay}
 use Rattle.budget.specs.Statements.{Pays}
 
 -- by the analyst's place in the list
@@ -14,37 +12,14 @@ pays [] analyst cost h = omega arith
 pays (b ∷ budgets) zero cost h = omega arith
 pays (b ∷ budgets) (suc analyst) cost h = omega (arith, pays budgets analyst cost h)
 
--- the budgets are the first n of some units
-module _ (units : List ℕ) (n analyst : ℕ) where
-  -- what is read of an analyst is what that analyst holds
-  pub held_inside : n ≤ length units → analyst < n → Some (get_or units analyst 0) ≡ held (take n units) analyst
-  held_inside le lt =
-      let long = length-take-le n units le in
-      let same = get_or-take n units analyst 0 lt in
-      grind (arith, nat_tests)
-
+module _ (budgets : List ℕ) (analyst v : ℕ) where
   -- an analyst who holds something is one of them
-  pub held_some : (v : ℕ) → Some v ≡ held (take n units) analyst → (analyst < length (take n units)) × (v ≡ get_or (take n units) analyst 0)
-  held_some v e = grind (arith, nat_tests)
+  pub held_some : Some v ≡ held budgets analyst → (analyst < length budgets) × (v ≡ get_or budgets analyst 0)
+  held_some e = grind (arith, nat_tests)
 
-  module _ (v cost : ℕ) (e : Some v ≡ held (take n units) analyst) where
-    -- a cost that the analyst holds is taken
-    pub taken : cost ≤ v → payment_refusal (take n units) analyst cost ≡ None
-    taken h = let was = held_some v e in grind (arith, nat_tests)
+  -- what is left of it is what the analyst holds after paying
+  pub lowered : (cost rest : ℕ) → Some v ≡ held budgets analyst → rest ≡ v - cost → set budgets analyst rest ≡ pay budgets analyst cost
+  unfolding pay
+  lowered cost rest e is = ap (set budgets analyst) (is ∙ ap (λ x. x - cost) (held_some e).1)
 
-    -- and lowers that analyst's budget alone
-    pub lowered : take n (set units analyst (v - cost)) ≡ pay (take n units) analyst cost
-    unfolding pay
-    lowered =
-        let was = held_some v e in
-        take-set-lt n units analyst (v - cost) (omega (arith, length-take n units)) ∙ ap (λ x. set (take n units) analyst (x - cost)) was.1
-
-    -- all hold no more than before
-    pub still_bounded : (most : ℕ) → cost ≤ v → total (take n units) ≤ most → total (take n (set units analyst (v - cost))) ≤ most
-    still_bounded most enough h =
-        let was = held_some v e in
-        omega (arith, ap total lowered, pays (take n units) analyst cost (omega arith))
-
-    -- and nothing past the analysts changes
-    pub rest_stays : drop n (set units analyst (v - cost)) ≡ drop n units
-    rest_stays = let was = held_some v e in drop-set-lt n units analyst (v - cost) (omega (arith, length-take n units))
+pub ruleset paying = (pays, held_some, lowered)

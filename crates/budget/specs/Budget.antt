@@ -1,10 +1,11 @@
 -- Budgets: the units that each analyst may still spend, how they are opened and what is paid from them.
-use Rattle.std.specs.Prelude.{ℕ, ◌+◌, ◌-◌, cond, ◌||◌, List, [], ◌∷◌, length, take, Some, None, Option, nat_lt, slice_index, slice_set}
+use Rattle.std.specs.Prelude.{ℕ, ◌+◌, ◌-◌, cond, ◌||◌, List, [], ◌∷◌, length, Some, None, Option, nat_lt, slice_index, slice_set}
+use Rattle.roll.specs.Lists.{listed}
 use Rattle.budget.specs.declared.Budgets.{Budgets}
 
 -- what each analyst holds, in the order of their numbers
 abbrev pub budgets_of : Budgets → List ℕ
-budgets_of b = take b.analysts b.units
+budgets_of b = listed b.units
 
 -- what one analyst holds, if there is such an analyst
 abbrev pub held : List ℕ → ℕ → Option ℕ

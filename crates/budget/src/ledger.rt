@@ -1,114 +1,71 @@
 // Opening the budgets, reading them, and paying from them.
-ghost use Rattle.std.specs.Prelude.{◌≡◌, ◌+◌, ◌-◌, ◌<◌, ◌≤◌, is_ok, IfOk, if◌then◌else◌, MatchOption};
+ghost use Rattle.std.specs.Prelude.{◌≡◌, IfOk};
 ghost use Rattle.roll.specs.Numbers.{total};
 ghost use Rattle.roll.specs.Refusals.{refusal_of};
 ghost use Rattle.budget.specs.Budget.{budgets_of, held, opening_refusal, payment_refusal, pay};
 ghost use Rattle.budget.specs.Statements.{Pays};
 
-use crate::{Budgets, MOST_ANALYSTS, MOST_UNITS};
-use roll::Refusal;
-
-// The units of some budgets and one more, where that is not too much.
-fn together(before: u8, units: u8) -> Option<u8>
-    requires { before ≤ 20 }
-    ensures { MatchOption result (20 < before + units) (λ sum. (sum ≡ before + units) × (sum ≤ 20)) }
-{
-    if units > MOST_UNITS - before {
-        return None;
-    }
-    Some(before + units)
-}
-
-// What is left of some units after a cost, where they hold it.
-fn less(units: u8, cost: u8) -> Option<u8>
-    ensures { MatchOption result (units < cost) (λ rest. (cost ≤ units) × (rest ≡ units - cost)) }
-{
-    if units < cost {
-        return None;
-    }
-    Some(units - cost)
-}
-
-// The analyst, where there are so many.
-fn present(analyst: usize, analysts: usize) -> Option<usize>
-    ensures { MatchOption result (analysts ≤ analyst) (λ a. (a ≡ analyst) × (a < analysts)) }
-{
-    if analyst >= analysts {
-        return None;
-    }
-    Some(analyst)
-}
-
-// The sum of some budgets.
-fn sum_of(budgets: &[u8]) -> u8
-    requires { total budgets.now ≤ 20 }
-    ensures { result ≡ total budgets.now }
-{
-    let mut sum = 0;
-    for units in budgets {
-        sum += *units;
-    }
-    sum
-}
+use crate::{Budgets, MOST_UNITS};
+use roll::{Refusal, UpTo};
 
 impl Budgets {
     // One budget for each byte.
+    #[tactic(auto, using(crate::proofs::Openings::opening))]
     pub fn open(bytes: &[u8]) -> Result<Budgets, Refusal>
         ensures verdict { refusal_of result ≡ opening_refusal bytes.now }
         ensures holds { IfOk result (λ b. budgets_of b ≡ bytes.now) }
     {
-        let analysts = bytes.len();
-        if analysts == 0 || analysts > MOST_ANALYSTS {
+        if bytes.is_empty() {
             return Err(Refusal::AnalystCount);
         }
-        let mut units = [0; 32];
-        let mut sum = 0;
+        let units = UpTo::try_from(bytes).map_err(|_| Refusal::AnalystCount)?;
+        let mut sum: u8 = 0;
+        // The number of the analyst is the refusal's place.
         for (analyst, budget) in bytes.iter().enumerate() {
-            let Some(more) = together(sum, *budget) else {
-                return Err(Refusal::BudgetSum(analyst));
-            };
-            sum = more;
-            units[analyst] = *budget;
+            sum = sum
+                .checked_add(*budget)
+                .filter(|sum| *sum <= MOST_UNITS)
+                .ok_or(Refusal::BudgetSum(analyst))?;
         }
-        Ok(Budgets { units, analysts })
+        Ok(Budgets { units })
+    }
+
+    // What each analyst holds, in the order of their numbers.
+    pub fn as_slice(&self) -> &[u8]
+        ensures { result.now ≡ budgets_of self.now }
+    {
+        self.units.as_slice()
     }
 
     // What an analyst holds, or none where there is no such analyst.
     pub fn left(&self, analyst: usize) -> Option<u8>
         ensures { result ≡ held (budgets_of self.now) analyst }
     {
-        let Some(analyst) = present(analyst, self.analysts) else {
-            return None;
-        };
-        Some(self.units[analyst])
+        self.as_slice().get(analyst).copied()
     }
 
     // What all analysts hold together.
     pub fn total(&self) -> u8
         ensures { result ≡ total (budgets_of self.now) }
     {
-        sum_of(&self.units[0..self.analysts])
+        self.as_slice().iter().sum()
     }
 
-    // Lowers an analyst's budget by the cost, and hands the budgets back. A refusal changes nothing.
-    pub fn pay(mut self, analyst: usize, cost: u8) -> (Budgets, Result<(), Refusal>)
-        ensures verdict { refusal_of result.1 ≡ payment_refusal (budgets_of self) analyst cost }
-        ensures after { budgets_of result.0 ≡ (if is_ok result.1 then pay (budgets_of self) analyst cost else budgets_of self) }
+    // The budgets after an analyst has paid a cost. Where that is refused, the caller has them as they were.
+    #[tactic(auto, using(crate::proofs::Payments::paying))]
+    pub fn pay(mut self, analyst: usize, cost: u8) -> Result<Budgets, Refusal>
+        ensures verdict { refusal_of result ≡ payment_refusal (budgets_of self) analyst cost }
+        ensures after { IfOk result (λ b. budgets_of b ≡ pay (budgets_of self) analyst cost) }
     {
-        let Some(units) = self.left(analyst) else {
-            return (self, Err(Refusal::NoSuchAnalyst));
-        };
-        let Some(rest) = less(units, cost) else {
-            return (self, Err(Refusal::BudgetTooLow));
-        };
-        self.units[analyst] = rest;
-        (self, Ok(()))
+        let units = self.left(analyst).ok_or(Refusal::NoSuchAnalyst)?;
+        let rest = units.checked_sub(cost).ok_or(Refusal::BudgetTooLow)?;
+        self.units.replace(analyst, rest);
+        Ok(self)
     }
 }
 
 // What the budgets hold after a cost was paid, with the cost, is what they held.
-pub fn pays_stands() -> u8
+#[tactic(auto, using(crate::proofs::Payments::pays))]
+pub fn pays_stands()
     ensures { Pays }
-{
-    0
-}
+{}

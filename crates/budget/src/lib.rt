@@ -1,8 +1,11 @@
 // The analysts' budgets: opened once, and only ever lowered.
 #![tactic(auto)]
 
-ghost use Rattle.std.specs.Prelude.{◌≡◌, ◌-◌, ◌≤◌, take, drop, replicate};
+ghost use Rattle.std.specs.Prelude.{◌≡◌, ◌≤◌, length, drop, All};
+ghost use Rattle.roll.specs.Lists.{listed};
 ghost use Rattle.roll.specs.Numbers.{total};
+
+use roll::UpTo;
 
 mod ledger;
 
@@ -15,14 +18,12 @@ pub const MOST_ANALYSTS: usize = 32;
 pub const MOST_UNITS: u8 = 20;
 
 // What each analyst may still spend, in units. Past the analysts nothing is held.
-#[derive(Clone, Copy, Debug)]
+#[derive(Clone, Copy, Debug, PartialEq, Eq)]
 pub struct Budgets {
-    units: [u8; 32],
-    analysts: usize,
-    ghost some: { 1 ≤ analysts },
-    ghost few: { analysts ≤ 32 },
-    ghost bounded: { total (take analysts units) ≤ 20 },
-    ghost empty: { drop analysts units ≡ replicate (32 - analysts) 0 },
+    units: UpTo<u8, MOST_ANALYSTS>,
+    ghost some: { 1 ≤ length (listed units) },
+    ghost bounded: { total (listed units) ≤ 20 },
+    ghost empty: { All (λ u. u ≡ 0) (drop units.len units.items) },
 }
 
 #[cfg(test)]

@@ -22,20 +22,13 @@ fn openings(rt: HostRuntime) {
 // Three units and one: a count and a table by analyst 0 leave nothing, and a third query is refused.
 #[test]
 fn example(rt: HostRuntime) -> Result<(), Fail> {
-    let budgets = Budgets::open(&[3, 1])?;
-    let (budgets, first) = budgets.pay(0, 1);
-    let (budgets, second) = budgets.pay(0, 2);
+    let budgets = Budgets::open(&[3, 1])?.pay(0, 1)?.pay(0, 2)?;
     assert_eq!(rt; budgets.left(0), Some(0));
     assert_eq!(rt; budgets.total(), 1);
-    let (budgets, third) = budgets.pay(0, 1);
-    let (budgets, nobody) = budgets.pay(2, 0);
+    assert_eq!(rt; budgets.pay(0, 1), Err(Refusal::BudgetTooLow));
+    assert_eq!(rt; budgets.pay(2, 0), Err(Refusal::NoSuchAnalyst));
     assert_eq!(rt; budgets.left(1), Some(1));
-    let (budgets, last) = budgets.pay(1, 1);
-    assert_eq!(rt; budgets.total(), 0);
-    assert_eq!(rt;
-        [first, second, third],
-        [Ok(()), Ok(()), Err(Refusal::BudgetTooLow)]
-    );
-    assert_eq!(rt; [nobody, last], [Err(Refusal::NoSuchAnalyst), Ok(())]);
+    let last = budgets.pay(1, 1)?;
+    assert_eq!(rt; last.total(), 0);
     Ok(())
 }

@@ -1,28 +1,15 @@
-use Rattle.std.proofs.Common.{◌≤◌, take, drop, set, sym, ap, ◌∙◌, subst}
+use Rattle.std.proofs.Common.{◌≡◌, sym, ap, subst, arith}
+use Rattle.std.specs.List.{All}
 use Rattle.roll.specs.Numbers.{total}
-use Rattle.budget.proofs.Payments.{taken, lowered, still_bounded, rest_stays}
+use Rattle.roll.specs.Lists.{listed}
+use Rattle.budget.specs.Budget.{budgets_of, pay}
+use Rattle.budget.proofs.Payments.{paying}
 use Rattle.budget.proofs.Budgets.pay.Goals as goal
 
-pub invariant_of-self : goal.invariant_of-self
-invariant_of-self c =
-    let self = c.args.self in
-    let i = c.args.analyst in
-    let was = c.in-Some.ensures in
-    let rest = c.in-Some-less.ensures in
-    record {
-      some = self.some;
-      few = self.few;
-      bounded = subst (λ v. total (take self.analysts (set self.units i v)) ≤ 20) (sym rest.1) (still_bounded self.units self.analysts i c.in-Some.units c.args.cost was 20 rest.0 self.bounded);
-      empty = ap (λ v. drop self.analysts (set self.units i v)) rest.1 ∙ rest_stays self.units self.analysts i c.in-Some.units c.args.cost was ∙ self.empty;
-    }
+pub invariant_of-self-clause-bounded : goal.invariant_of-self-clause-bounded
+invariant_of-self-clause-bounded c =
+    let after : listed c.replace.new.self ≡ pay (budgets_of c.args.self) c.args.analyst c.args.cost = grind (arith, paying) in
+    grind (arith, paying, ap total after)
 
-pub returns : goal.returns
-returns c =
-    let self = c.args.self in
-    let i = c.args.analyst in
-    let was = c.in-Some.ensures in
-    let rest = c.in-Some-less.ensures in
-    record {
-      verdict = sym (taken self.units self.analysts i c.in-Some.units c.args.cost was rest.0);
-      after = ap (λ v. take self.analysts (set self.units i v)) rest.1 ∙ lowered self.units self.analysts i c.in-Some.units c.args.cost was;
-    }
+pub invariant_of-self-clause-empty : goal.invariant_of-self-clause-empty
+invariant_of-self-clause-empty c = subst (All (λ u. u ≡ 0)) (sym c.replace.ensures.spare) c.args.self.empty

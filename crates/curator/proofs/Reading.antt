@@ -1,12 +1,12 @@
 -- A line by its kind.
-use Rattle.std.proofs.Common.{◌≡◌, ℕ, ◌-◌, ◌<◌, ◌≤◌, List, [], ◌∷◌, length, get_or, take, drop, Ok, Err, Result, sym, refl, ap, ◌∙◌, arith, length-drop}
-use Rattle.std.proofs.lemmas.List.{take_rest}
+use Rattle.std.proofs.Common.{◌≡◌, ℕ, ◌<◌, List, [], ◌∷◌, length, get_or, Ok, Err, Result, refl, ◌∙◌, arith}
 use Rattle.std.proofs.lemmas.Bool.{cond-true, cond-false, eq-eqb, ne_eqb}
 use Rattle.roll.specs.declared.refusal.Refusal.{Refusal}
-use Rattle.roll.specs.Rows.{edit_refusal}
 use Rattle.query.specs.Lines.{read_query}
-use Rattle.curator.specs.Lines.{Command, reject, edit_place, edit_unless, ask_or, read_edit, read_line}
-use Rattle.curator.specs.Served.{As}
+use Rattle.curator.specs.Lines.{Command, reject, ask_or, read_edit, read_line}
+use Rattle.curator.specs.declared.command.kind.Kind.{Kind}
+use Rattle.curator.specs.declared.command.kind.Kind.TheVariants as kind
+use Rattle.curator.specs.Served.{kind_byte, As}
 use Rattle.curator.specs.declared.command.Command.{Command as Stored}
 
 module _ (places : ℕ) where
@@ -17,10 +17,10 @@ module _ (places : ℕ) where
   no_kind (b ∷ bs) h = absurd (omega arith)
 
   -- a byte of no kind
-  pub other_kind : (line : List ℕ) → (get_or line 0 0 ≡ 1 → ⊥) → (get_or line 0 0 ≡ 2 → ⊥) → read_line places line ≡ reject 5 0
+  pub other_kind : (line : List ℕ) → ((k : Kind) → get_or line 0 0 ≡ kind_byte k → ⊥) → read_line places line ≡ reject 5 0
   unfolding read_line
-  other_kind [] one two = refl
-  other_kind (b ∷ bs) one two = cond-false _ _ _ (ne_eqb b 1 one) ∙ cond-false _ _ _ (ne_eqb b 2 two)
+  other_kind [] other = refl
+  other_kind (b ∷ bs) other = cond-false _ _ _ (ne_eqb b 1 (other kind.Edit)) ∙ cond-false _ _ _ (ne_eqb b 2 (other kind.Query))
 
   -- an edit
   pub edit_kind : (line : List ℕ) → 0 < length line → get_or line 0 0 ≡ 1 → read_line places line ≡ read_edit places line
@@ -40,24 +40,5 @@ pub same_reading :
 same_reading f g e (Ok c) h = λ places. e places ∙ h places
 same_reading f g e (Err x) h = λ places. e places ∙ h places
 
-module _ (places : ℕ) (line : List ℕ) where
-  -- the bytes after the kind and the place, as a part of the line
-  abbrev part : List ℕ
-  part = take (length line - 3) (drop 3 line)
-
-  -- an edit of another length
-  pub short_edit : (length part ≡ 16 → ⊥) → 3 ≤ length line → read_edit places line ≡ reject 6 (length line)
-  short_edit size some =
-      let all = take_rest line 3 in
-      cond-false _ _ _ (ne_eqb (length line) 19 (λ e. size (omega (arith, ap length all, length-drop 3 line))))
-
-  -- an edit of 19 bytes: the row is what follows the kind and the place
-  pub whole_edit :
-      (row : List ℕ) → 3 ≤ length line → length part ≡ 16 → row ≡ part → (place : ℕ) → place ≡ edit_place line →
-      read_edit places line ≡ edit_unless (edit_refusal places place row) place row
-  whole_edit row some size is place at =
-      let all = take_rest line 3 in
-      let long : length line ≡ 19 = omega (arith, ap length all, length-drop 3 line) in
-      cond-true _ _ _ (eq-eqb (length line) 19 long)
-      ∙ ap (λ x. edit_unless (edit_refusal places (edit_place line) x) (edit_place line) x) (sym (is ∙ all))
-      ∙ ap (λ p. edit_unless (edit_refusal places p row) p row) (sym at)
+-- a line by its kind, in all cases
+pub ruleset kinds = (no_kind, other_kind, edit_kind, query_kind, same_reading)

@@ -1,15 +1,17 @@
 -- What a query leads to, by its verdict.
-use Rattle.std.proofs.Common.{◌≡◌, ℕ, ◌-◌, ◌<◌, ◌≤◌, List, length, get_or, take, drop, set, Some, None, Option, unwrap_or, sym, refl, ap, ◌∙◌, ⊎_elim, arith, length-set, get_or-set_same}
+use Rattle.std.proofs.Common.{◌≡◌, ℕ, ◌-◌, ◌<◌, ◌≤◌, List, length, get_or, take, drop, set, Some, None, unwrap_or, Ok, Err, Result, is_ok, if◌then◌else◌, sym, refl, ap, ◌∙◌, ⊎_elim, arith, length-set, get_or-set_same}
 use Rattle.std.proofs.lemmas.List.{set-get_or, get_or_past}
 use Rattle.std.proofs.lemmas.Bool.{cases_lt, cond-true, cond-false, lt-ltb, le-ltb}
+use Rattle.roll.specs.declared.refusal.Refusal.{Refusal}
+use Rattle.roll.specs.Refusals.{refusal_of}
 use Rattle.roll.specs.Rows.{Row}
 use Rattle.query.specs.Query.{Query, cells, cost, counts}
 use Rattle.noise.specs.Dial.{Dial}
 use Rattle.noise.specs.Release.{all_released}
 use Rattle.budget.specs.Budget.{held, pay}
 use Rattle.curator.specs.Lines.{Command, ask, reject, edit_unless}
-use Rattle.curator.specs.Served.{edit_outcome}
-use Rattle.curator.specs.Curator.{Outcome, answered, refused, State, opening, verdict, by_verdict, taken, reply, charge, price, paid, edited_roll, outcome, step}
+use Rattle.curator.specs.Served.{or_refused}
+use Rattle.curator.specs.Curator.{Outcome, answered, edited, refused, State, opening, verdict, by_verdict, taken, reply, charge, price, paid, edited_roll, outcome, step, Leads}
 
 -- who pays nothing holds what was held
 pay_nothing : (budgets : List ℕ) (analyst : ℕ) → pay budgets analyst 0 ≡ budgets
@@ -60,58 +62,53 @@ module _ (d : Dial) (left : ℕ) (budgets : List ℕ) (analyst : ℕ) (q : Query
   unfolding paid price by_verdict charge
   granted_paid v a u xs = ap (λ x. pay budgets analyst (by_verdict x (cost q) (λ n k. 0))) v
 
--- a turn of the curator, with these rows, budgets and words on the tape
-module _ (d : Dial) (rows : List Row) (budgets tape : List ℕ) (analyst : ℕ) (q : Query) where
-  -- the words that the query takes
-  abbrev pub own : ℕ
-  own = taken d (length tape) (ask analyst q)
+-- a state by its three parts
+pub same_state : {s t : State} → s.roll ≡ t.roll → s.budgets ≡ t.budgets → s.tape ≡ t.tape → s ≡ t
+same_state {s} {t} r b w = ap (λ x. opening x s.budgets s.tape) r ∙ ap (λ x. opening t.roll x s.tape) b ∙ ap (opening t.roll t.budgets) w
 
-  -- that is refused: the page is taken all the same
+module _ {d : Dial} {s t : State} where
+  -- a query that is refused: its page is taken all the same
   pub refused_turn :
-      (e : ℕ × ℕ) → Some e ≡ verdict d (length tape) budgets analyst q → (after rest : List ℕ) → after ≡ budgets → rest ≡ drop own tape →
-      (refused e.0 e.1 ≡ outcome d (opening rows budgets tape) (ask analyst q))
-      × (opening rows after rest ≡ step d (opening rows budgets tape) (ask analyst q) (refused e.0 e.1))
+      {analyst n k : ℕ} {q : Query} → Some (n, k) ≡ verdict d (length s.tape) s.budgets analyst q →
+      t.roll ≡ s.roll → t.budgets ≡ s.budgets → t.tape ≡ drop (taken d (length s.tape) (ask analyst q)) s.tape →
+      Leads d s (ask analyst q) (refused n k) t
   unfolding outcome step edited_roll
-  refused_turn e v after rest b t =
-      let same = b ∙ refused_paid d (length tape) budgets analyst q e v (refused e.0 e.1) in (
-        refused_reply d (length tape) budgets analyst q e v rows (take own tape),
-        ap (λ x. opening rows x rest) same ∙ ap (opening rows _) t,
-      )
+  refused_turn {analyst} {n} {k} {q} v r b w =
+      record {
+        outcome_is = refused_reply d (length s.tape) s.budgets analyst q (n, k) v s.roll _;
+        state_is = same_state r (b ∙ refused_paid d (length s.tape) s.budgets analyst q (n, k) v (refused n k)) w;
+      }
 
-  -- that is answered: the numbers are released from the page, and the query is paid
+  -- a query that is answered: the numbers are released from its page, and it is paid
   pub answered_turn :
-      None ≡ verdict d (length tape) budgets analyst q → (page numbers : List ℕ) (left : ℕ) (after rest : List ℕ) → page ≡ take own tape →
-      numbers ≡ all_released d (counts (cells q) rows) page → left ≡ unwrap_or (held after analyst) 0 → after ≡ pay budgets analyst (cost q) → rest ≡ drop own tape →
-      (answered analyst numbers left ≡ outcome d (opening rows budgets tape) (ask analyst q))
-      × (opening rows after rest ≡ step d (opening rows budgets tape) (ask analyst q) (answered analyst numbers left))
+      {analyst left : ℕ} {q : Query} {page numbers : List ℕ} → None ≡ verdict d (length s.tape) s.budgets analyst q →
+      page ≡ take (taken d (length s.tape) (ask analyst q)) s.tape → numbers ≡ all_released d (counts (cells q) s.roll) page → left ≡ unwrap_or (held t.budgets analyst) 0 →
+      t.roll ≡ s.roll → t.budgets ≡ pay s.budgets analyst (cost q) → t.tape ≡ drop (taken d (length s.tape) (ask analyst q)) s.tape →
+      Leads d s (ask analyst q) (answered analyst numbers left) t
   unfolding outcome step edited_roll
-  answered_turn v page numbers left after rest p n l b t =
-      let released : numbers ≡ all_released d (counts (cells q) rows) (take own tape) = n ∙ ap (all_released d (counts (cells q) rows)) p in
-      let holds : left ≡ get_or budgets analyst 0 - cost q = l ∙ ap (λ x. unwrap_or (held x analyst) 0) b ∙ left_after budgets analyst (cost q) in
-      let same = b ∙ granted_paid d (length tape) budgets analyst q v analyst left numbers in (
-        ap (answered analyst numbers) holds ∙ ap (λ x. answered analyst x (get_or budgets analyst 0 - cost q)) released ∙ granted_reply d (length tape) budgets analyst q v rows (take own tape),
-        ap (λ x. opening rows x rest) same ∙ ap (opening rows _) t,
-      )
+  answered_turn {analyst} {left} {q} {page} {numbers} v p n l r b w =
+      let released = n ∙ ap (all_released d (counts (cells q) s.roll)) p in
+      let holds = l ∙ ap (λ x. unwrap_or (held x analyst) 0) b ∙ left_after s.budgets analyst (cost q) in
+      record {
+        outcome_is =
+            ap (answered analyst numbers) holds ∙ ap (λ x. answered analyst x (get_or s.budgets analyst 0 - cost q)) released
+            ∙ granted_reply d (length s.tape) s.budgets analyst q v s.roll _;
+        state_is = same_state r (b ∙ granted_paid d (length s.tape) s.budgets analyst q v analyst left numbers) w;
+      }
 
--- a line that is no turn, with these rows, budgets and words on the tape
-module _ (d : Dial) (rows : List Row) (budgets tape : List ℕ) where
   -- a line that is refused as it is read changes nothing
-  pub rejected_line :
-      (n k : ℕ) → (refused n k ≡ outcome d (opening rows budgets tape) (reject n k)) × (opening rows budgets tape ≡ step d (opening rows budgets tape) (reject n k) (refused n k))
+  pub rejected_line : {n k : ℕ} → t ≡ s → Leads d s (reject n k) (refused n k) t
   unfolding outcome step reply taken paid edited_roll
-  rejected_line n k = (refl, refl)
+  rejected_line e = record { outcome_is = refl; state_is = e }
 
-  -- an edit, or its refusal, changes the rows at most
-  pub edited_line :
-      (e : Option (ℕ × ℕ)) (place : ℕ) (row : Row) (o : Outcome) (after : List Row) → o ≡ edit_outcome e → after ≡ edited_roll rows (edit_unless e place row) →
-      (o ≡ outcome d (opening rows budgets tape) (edit_unless e place row))
-      × (opening after budgets tape ≡ step d (opening rows budgets tape) (edit_unless e place row) o)
-  unfolding outcome step reply taken paid
-  edited_line None place row o after is r = (is, ap (λ x. opening x budgets tape) r)
-  edited_line (Some e) place row o after is r = (is, ap (λ x. opening x budgets tape) r)
+  -- what a line leads to, by the command that it is read as
+  pub by_command : {c e : Command} {o : Outcome} → c ≡ e → Leads d s e o t → Leads d s c o t
+  by_command same led = rw same led
 
--- what a line leads to, by the command that it is read as
-pub by_command :
-    (d : Dial) (s : State) (c e : Command) → c ≡ e → (o : Outcome) (t : State) → (o ≡ outcome d s e) × (t ≡ step d s e o) →
-    (o ≡ outcome d s c) × (t ≡ step d s c o)
-by_command d s c e same o t h = (h.0 ∙ ap (outcome d s) (sym same), h.1 ∙ ap (λ x. step d s x o) (sym same))
+  -- an edit that is taken changes the rows alone, and one that is refused changes nothing
+  pub edited_turn :
+      {c : Command} {o : Outcome} (place : ℕ) (row : Row) (r : Result Unit Refusal) → c ≡ edit_unless (refusal_of r) place row → o ≡ or_refused (λ u. edited) r →
+      t.roll ≡ (if is_ok r then set s.roll place row else s.roll) → t.budgets ≡ s.budgets → t.tape ≡ s.tape → Leads d s c o t
+  unfolding outcome step reply taken paid edited_roll
+  edited_turn place row (Ok u) same is r b w = rw (same, is) (record { outcome_is = refl; state_is = same_state r b w })
+  edited_turn place row (Err e) same is r b w = rw (same, is) (record { outcome_is = refl; state_is = same_state r b w })

@@ -69,3 +69,6 @@ module _ (tape : List ℕ) where
 
     pub rest_of : 2048 ≤ length tape → (rest : List ℕ) → rest ≡ drop 2048 tape → words_of rest ≡ drop (taken our_dial (length (words_of tape)) (ask analyst q)) (words_of tape)
     rest_of h rest e = ap words_of e ∙ rest_words h ∙ sym (ap (λ n. drop n (words_of tape)) (page_taken h))
+
+-- what a query takes and whether it is refused, in all cases
+pub ruleset turns = (no_page_verdict, no_page_taken, page_verdict, page_of, rest_of)

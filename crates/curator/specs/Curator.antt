@@ -1,5 +1,5 @@
 -- The curator over a whole run: what each line leads to, what it costs, and the state that it leaves.
-use Rattle.std.specs.Prelude.{ℕ, zero, suc, ◌+◌, ◌-◌, ◌*◌, ◌/◌, Bool, true, false, cond, ◌&&◌, List, [], ◌∷◌, ◌++◌, length, take, drop, Some, None, Option, ◌==◌, nat_lt, slice_index, slice_set}
+use Rattle.std.specs.Prelude.{◌≡◌, ℕ, zero, suc, ◌+◌, ◌-◌, ◌*◌, ◌/◌, Bool, true, false, cond, ◌&&◌, List, [], ◌∷◌, ◌++◌, length, take, drop, Some, None, Option, ◌==◌, nat_lt, slice_index, slice_set}
 use Rattle.roll.specs.Numbers.{same}
 use Rattle.roll.specs.Rows.{Row}
 use Rattle.query.specs.Query.{Query, cells, cost, counts}
@@ -92,6 +92,11 @@ step d s c o =
       budgets = paid d (length s.tape) s.budgets c o;
       tape = drop (taken d (length s.tape) c) s.tape;
     }
+
+-- in the state s a line leads to the outcome o and to the state t
+pub record Leads (d : Dial) (s : State) (c : Command) (o : Outcome) (t : State) : Type 0 where
+  pub outcome_is : o ≡ outcome d s c
+  pub state_is : t ≡ step d s c o
 
 -- what the next line asks for, from all outcomes so far
 abbrev pub Commands : Type 0

@@ -7,46 +7,34 @@ ghost use Rattle.curator.specs.Curator.{Outcome, State};
 ghost use Rattle.curator.specs.Statements.{Bounded, NoRow, OwnWords, Private, PrivateBy, Judged, JudgedBy};
 
 // The bounds on the outcomes of single lines multiply over a run.
-pub fn composition_stands() -> u8
+pub fn composition_stands()
     ensures single { Composition Outcome State (List Row) }
     ensures sets { CompositionOfSets Outcome State (List Row) }
-{
-    0
-}
+{}
 
 // Whatever a transcript is, the tapes that lead to it differ between two runs that are alike but for one row by no more than the units spent allow.
-pub fn private_stands() -> u8
+pub fn private_stands()
     ensures good { (d : Dial) → Good d → PrivateBy d }
     ensures ours { Private }
-{
-    0
-}
+{}
 
 // The same of any judgement on the transcript, by what the budgets held at the opening.
-pub fn judged_stands() -> u8
+pub fn judged_stands()
     ensures good { (d : Dial) → Good d → JudgedBy d }
     ensures ours { Judged }
-{
-    0
-}
+{}
 
 // What is spent never passes what the budgets held.
-pub fn bounded_stands() -> u8
+pub fn bounded_stands()
     ensures { Bounded }
-{
-    0
-}
+{}
 
 // Whether and why a line is refused follows from the outcomes before it, and from no row.
-pub fn no_row_stands() -> u8
+pub fn no_row_stands()
     ensures { NoRow }
-{
-    0
-}
+{}
 
 // A cell's number depends on no word of the tape but its own.
-pub fn own_words_stands() -> u8
+pub fn own_words_stands()
     ensures { OwnWords }
-{
-    0
-}
+{}

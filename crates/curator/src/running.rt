@@ -1,5 +1,6 @@
 // A run of a list of lines.
 ghost use Rattle.std.specs.Prelude.{◌≡◌, ◌<◌, length, MatchOption};
+ghost use Rattle.std.specs.Iterator.{YieldsFirstRef, item_count};
 ghost use Rattle.roll.specs.Rows.{rows_of};
 ghost use Rattle.budget.specs.Budget.{budgets_of};
 ghost use Rattle.curator.specs.declared.outcome.Outcome.{Outcome};
@@ -23,6 +24,7 @@ pub trait Journal {
 }
 
 // The first line and what follows it; none where there is no byte.
+#[tactic(auto, using(crate::proofs::Scripts::single_line, crate::proofs::Scripts::cut_line))]
 pub fn split_line(bytes: &[u8]) -> Option<(&[u8], &[u8])>
     ensures { MatchOption result (length bytes.now ≡ 0) (λ p. (0 < length bytes.now) × (p.0.now ≡ first_line bytes.now) × (p.1.now ≡ after_line bytes.now)) }
 {
@@ -33,6 +35,25 @@ pub fn split_line(bytes: &[u8]) -> Option<(&[u8], &[u8])>
         }
         [_] => Some((&[], &[])),
         [] => None,
+    }
+}
+
+// The lines of a list, one after the other.
+#[derive(Drop)]
+struct Lines<'a>(&'a [u8]);
+
+impl<'a> Iterator for Lines<'a> {
+    type Item = &'a [u8];
+
+    ghost next_gives = { YieldsFirstRef (λ s. lines_in s.0.now) };
+
+    ghost remaining = { item_count (λ s. lines_in s.0.now) };
+
+    #[tactic(auto, using(crate::proofs::Scripts::lines_more, crate::proofs::Scripts::lines_none))]
+    fn next(&mut self) -> Option<&'a [u8]> {
+        let (line, rest) = split_line(self.0)?;
+        self.0 = rest;
+        Some(line)
     }
 }
 
@@ -50,11 +71,8 @@ pub fn run<'t, J: Journal>(
     ensures bounded { Bounded }
 {
     let mut curator = Curator::open(budgets, tape);
-    let mut left = lines;
-    while let Some((line, rest)) = split_line(left) {
-        let outcome = curator.line(roll, line);
-        journal.note(&outcome);
-        left = rest;
+    for line in Lines(lines) {
+        journal.note(&curator.line(roll, line));
     }
     curator
 }

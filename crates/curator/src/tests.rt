@@ -1,7 +1,7 @@
 // Runs of lines, each number of the list of refusals among them.
 use crate::{Curator, Journal, Outcome, run};
 use budget::Budgets;
-use roll::{Refusal, Roll};
+use roll::{Refusal, Roll, UpTo};
 use std::test::Fail;
 
 // The roll of five places, fields 0, 1 and 2: 1 40 2 / 1 55 0 / 0 0 0 / 1 38 1 / 1 61 3.
@@ -15,9 +15,10 @@ const ROWS: [u8; 80] = [
 const COUNT: [u8; 6] = [2, 0, 1, 1, 1, 50];
 
 // What a test looks at of an outcome: who was answered, the first number, and what is left; or the refusal.
-#[derive(Clone, Copy, Debug, PartialEq)]
+#[derive(Clone, Copy, Debug, Default, PartialEq)]
 enum Seen {
-    Answer(u8, u32, u8),
+    Answer(u8, Option<u16>, u8),
+    #[default]
     Edit,
     Refusal(Refusal),
 }
@@ -26,7 +27,7 @@ fn look(outcome: &Outcome) -> Seen {
     match outcome {
         Outcome::Answered(answer) => Seen::Answer(
             answer.analyst,
-            answer.released.as_slice().first().copied().unwrap_or(0),
+            answer.released.as_slice().first().copied().flatten(),
             answer.left,
         ),
         Outcome::Edited => Seen::Edit,
@@ -36,19 +37,13 @@ fn look(outcome: &Outcome) -> Seen {
 
 // A journal of the first eight outcomes.
 #[derive(Drop)]
-struct Notes {
-    seen: [Seen; 8],
-    len: usize,
-}
+struct Notes(UpTo<Seen, 8>);
 
 impl Journal for Notes {
     ghost notes = { λ _ _ _. Unit {0} };
 
     fn note(&mut self, outcome: &Outcome) {
-        if self.len < 8 {
-            self.seen[self.len] = look(outcome);
-            self.len += 1;
-        }
+        let _ = self.0.push(look(outcome));
     }
 }
 
@@ -102,10 +97,7 @@ fn answers(rt: HostRuntime) -> Result<(), Fail> {
     let mut rows = ROWS;
     let mut roll = Roll::open(5, &mut rows)?;
     let tape = [0; 2 * 2_048];
-    let mut notes = Notes {
-        seen: [Seen::Edit; 8],
-        len: 0,
-    };
+    let mut notes = Notes(UpTo::new());
     let lines = [
         6, 0, 2, 0, 1, 1, 1, 50, 19, 0, 1, 2, 0, 1, 1, 1, 1, 1, 1, 1, 1, 1, 1, 1, 1, 1, 1, 1, 1, 6,
         0, 2, 1, 1, 1, 1, 50, 6, 0, 2, 0, 1, 1, 1, 50, 9,
@@ -117,18 +109,14 @@ fn answers(rt: HostRuntime) -> Result<(), Fail> {
         &tape,
         &mut notes,
     );
-    assert_eq!(rt; notes.len, 5);
     let expected = [
-        Seen::Answer(0, 2, 2),
+        Seen::Answer(0, Some(2), 2),
         Seen::Edit,
-        Seen::Answer(1, 3, 0),
+        Seen::Answer(1, Some(3), 0),
         Seen::Refusal(Refusal::TapeEnds),
         Seen::Refusal(Refusal::LineKind),
-        Seen::Edit,
-        Seen::Edit,
-        Seen::Edit,
     ];
-    assert_eq!(rt; notes.seen, expected);
+    assert_eq!(rt; notes.0.as_slice(), expected.as_slice());
     assert_eq!(rt; curator.budgets().total(), 2);
     Ok(())
 }

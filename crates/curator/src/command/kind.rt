@@ -1,7 +1,7 @@
 // The kinds of lines.
-ghost use Rattle.std.specs.Prelude.{◌≡◌, MatchOption, ◌≢◌};
-ghost use Rattle.curator.specs.Served.{kind_byte};
-ghost use Rattle.curator.specs.declared.command.kind.Kind.{Kind};
+ghost use Rattle.curator.specs.Served.{Names};
+
+use roll::Refusal;
 
 #[derive(Clone, Copy)]
 pub(super) enum Kind {
@@ -9,15 +9,17 @@ pub(super) enum Kind {
     Query,
 }
 
-impl Kind {
-    // The kind that a line's first byte names.
-    pub(super) fn of(byte: u8) -> Option<Kind>
-        ensures { MatchOption result ((k : Kind) → byte ≢ kind_byte k) (λ k. byte ≡ kind_byte k) }
-    {
+// A line's first byte names its kind.
+impl TryFrom<u8> for Kind {
+    type Error = Refusal;
+
+    ghost try_from_gives = { Names };
+
+    fn try_from(byte: u8) -> Result<Kind, Refusal> {
         match byte {
-            1 => Some(Kind::Edit),
-            2 => Some(Kind::Query),
-            _ => None,
+            1 => Ok(Kind::Edit),
+            2 => Ok(Kind::Query),
+            _ => Err(Refusal::LineKind),
         }
     }
 }

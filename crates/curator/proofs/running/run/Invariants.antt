@@ -1,4 +1,3 @@
-use Rattle.std.proofs.Common.{length}
 use Rattle.roll.specs.Rows.{rows_of}
 use Rattle.curator.specs.Scripts.{lines_in}
 use Rattle.curator.specs.Served.{state_by}
@@ -9,7 +8,4 @@ use Rattle.curator.proofs.running.run.Given as goal
 abbrev pub invariant-loop-line : goal.invariant-loop-line
 invariant-loop-line g l =
     Followed g.J.Journal.notes l.initial.journal (state_by l.initial.curator (rows_of l.initial.roll)) (lines_in l.lines) l.journal
-    (state_by l.curator (rows_of l.roll)) l.left
-
-abbrev pub decreases-loop-line : goal.decreases-loop-line
-decreases-loop-line g l = length l.left
+    (state_by l.curator (rows_of l.roll)) (lines_in l.line-iterator.0.now)

@@ -1,24 +1,17 @@
-use Rattle.std.proofs.Common.{unwrap_or, ap, ◌∙◌}
-use Rattle.query.specs.Asked.{query_of}
-use Rattle.noise.specs.Dial.{our_dial}
-use Rattle.noise.specs.Words.{words_of}
-use Rattle.budget.specs.Budget.{budgets_of}
+use Rattle.std.proofs.Common.{◌≡◌, Err, unwrap_or, refl, arith}
+use Rattle.std.proofs.lemmas.Grind.{common_steps}
+use Rattle.budget.specs.Budget.{budgets_of, held}
 use Rattle.curator.proofs.Replies.{refused_turn, answered_turn}
 use Rattle.curator.proofs.curator.Curator.answer.Goals as goal
 
-pub returns-in-Err : goal.returns-in-Err
-returns-in-Err c =
-    let self = c.args.self.now in
-    let asked = c.args.asked.now in
-    let took = c.in-Err.ensures in
-    let turn = refused_turn our_dial c.args.rows.now (budgets_of self.budgets) (words_of self.tape.now) asked.analyst (query_of asked.query) _ took.verdict _ _ took.budgets took.tape in
-    record { outcome = turn.0; after = turn.1 }
+pub returns-in_err-page : goal.returns-in_err-page
+returns-in_err-page c =
+    let is : c.from_residual.result ≡ Err c.in_err-page.field-0.0 = grind (arith, common_steps) in
+    let took = c.in_err-page.ensures in
+    rw is (refused_turn took.verdict refl took.budgets took.tape)
 
 pub returns : goal.returns
 returns c =
-    let self = c.args.self.now in
-    let asked = c.args.asked.now in
-    let took = c.in-Ok.ensures in
-    let left = c.unwrap_or-left.ensures ∙ ap (λ o. unwrap_or o 0) c.left.ensures in
-    let turn = answered_turn our_dial c.args.rows.now (budgets_of self.budgets) (words_of self.tape.now) asked.analyst (query_of asked.query) took.verdict _ _ _ _ _ took.page c.release_query-released.ensures left took.budgets took.tape in
-    record { outcome = turn.0; after = turn.1 }
+    let took = c.in_ok-page.ensures in
+    let left : c.unwrap_or-left.result ≡ unwrap_or (held (budgets_of c.admit.new.self.budgets) c.args.asked.now.analyst) 0 = cc in
+    answered_turn took.verdict took.page c.release_query-released.ensures left refl took.budgets took.tape

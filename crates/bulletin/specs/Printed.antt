@@ -1,14 +1,21 @@
 -- What is printed for a number released, and the bytes of it. Only what is printed is cut, never what is released.
-use Rattle.std.specs.Prelude.{ℕ, cond, List, codes, decimal, nat_le, nat_lt}
+use Rattle.std.specs.Prelude.{ℕ, cond, min, List, Option, Some, None, codes, decimal, nat_le}
 use Rattle.bulletin.specs.declared.printed.Printed.{Printed}
-use Rattle.bulletin.specs.declared.printed.Printed.TheVariants.{None, Number}
 
--- for the number n released from a roll of p places: none for 65,536, 0 for 49,152 to 65,535, which stand below nothing,
--- p where it is above p and below 49,152, else the number itself; none too for what is no number released, above 65,536
+-- for the place n of the ring, released from a roll of p places: 0 from 49,152 on, which stands below nothing, else the lesser of n and p
+abbrev pub shown : ℕ → ℕ → ℕ
+shown p n = cond (nat_le 49152 n) 0 (min n p)
+
+-- for the number n released from a roll of p places: none for 65,536, and what is shown for a place of the ring;
+-- none too for what is no number released, above 65,536
 abbrev pub printed : ℕ → ℕ → Printed
-printed p n = cond (nat_le 65536 n) None (cond (nat_le 49152 n) (Number 0) (cond (nat_lt p n) (Number p) (Number n)))
+printed p n = record { 0 = cond (nat_le 65536 n) None (Some (shown p n)) }
 
--- its bytes
+-- the bytes of what is printed
+abbrev pub text_of : Option ℕ → List ℕ
+text_of None = codes "none"
+text_of (Some n) = decimal n
+
+-- as a value of the code
 abbrev pub printed_text : Printed → List ℕ
-printed_text None = codes "none"
-printed_text (Number n) = decimal n
+printed_text q = text_of q.0

@@ -1,24 +1,25 @@
 // The lines that are printed for a run: answers, refused lines, and an opening that is refused.
-ghost use Rattle.std.specs.Prelude.{Some};
+ghost use Rattle.std.specs.Prelude.{Some, map};
+ghost use Rattle.noise.specs.Release.{released_number};
 ghost use Rattle.bulletin.specs.Lines.{answer_text, numbers_text, opening_text, refused_text};
 
 use crate::Printed;
 use roll::Refusal;
 use std::fmt;
 
-// An answer, as in `0 says 1 2 0 left 0`: the numbers released from a roll of so many places, and what the analyst's budget then holds.
+// An answer, as in `0 says 1 2 0 left 0`: what was released from a roll of so many places, and what the analyst's budget then holds.
 #[derive(Clone, Copy)]
 pub struct Answer<'a> {
     pub analyst: u8,
-    pub released: &'a [u32],
+    pub released: &'a [Option<u16>],
     pub left: u8,
     pub places: usize,
 }
 
-// The numbers of an answer, each after a space.
+// The numbers of an answer, each after a space. An `Answer` keeps both fields apart, so that whoever makes one writes one literal.
 #[derive(Clone, Copy)]
 struct Numbers<'a> {
-    released: &'a [u32],
+    released: &'a [Option<u16>],
     places: usize,
 }
 
@@ -31,7 +32,7 @@ pub struct RefusedLine(pub Refusal);
 pub struct RefusedOpening(pub Refusal);
 
 impl fmt::Display for Answer<'_> {
-    ghost output = { λ a. Some (answer_text a.places a.analyst a.released.now a.left) };
+    ghost output = { λ a. Some (answer_text a.places a.analyst (map released_number a.released.now) a.left) };
 
     fn fmt<W: fmt::Write>(&self, f: &mut fmt::Formatter<W>) -> fmt::Result {
         let analyst = self.analyst;
@@ -45,7 +46,7 @@ impl fmt::Display for Answer<'_> {
 }
 
 impl fmt::Display for Numbers<'_> {
-    ghost output = { λ n. Some (numbers_text n.places n.released.now) };
+    ghost output = { λ n. Some (numbers_text n.places (map released_number n.released.now)) };
 
     fn fmt<W: fmt::Write>(&self, f: &mut fmt::Formatter<W>) -> fmt::Result {
         for released in self.released {

@@ -1,34 +1,33 @@
 // What is printed for a number released.
 ghost use Rattle.std.specs.Prelude.{◌≡◌, Some};
-ghost use Rattle.bulletin.specs.Printed.{printed, printed_text};
+ghost use Rattle.noise.specs.Release.{released_number};
+ghost use Rattle.bulletin.specs.Printed.{printed, printed_text, shown};
 
-use noise::NONE_RELEASED;
 use std::fmt;
 
 // Numbers released from here on, up to the last place of the ring, stand below nothing.
-const BELOW_NOTHING: u32 = 49_152;
+const BELOW_NOTHING: u16 = 49_152;
 
-// None, or a number that is at most the places of the roll.
+// A number that is at most the places of the roll, or none.
 #[derive(Clone, Copy, Debug, PartialEq, Eq)]
-pub enum Printed {
-    None,
-    Number(u32),
+pub struct Printed(pub Option<u16>);
+
+// The number that is shown for a place of the ring. It is at most that place, so the cast loses nothing.
+fn number_shown(number: u16, places: usize) -> u16
+    ensures { result ≡ shown places number }
+{
+    if number >= BELOW_NOTHING {
+        return 0;
+    }
+    usize::from(number).min(places) as u16
 }
 
 impl Printed {
-    // What is printed for a number released from a roll of so many places.
-    pub fn of(released: u32, places: usize) -> Printed
-        ensures { result ≡ printed places released }
+    // What is printed for what was released from a roll of so many places.
+    pub fn of(released: Option<u16>, places: usize) -> Printed
+        ensures { result ≡ printed places (released_number released) }
     {
-        if released >= NONE_RELEASED {
-            Printed::None
-        } else if released >= BELOW_NOTHING {
-            Printed::Number(0)
-        } else if released as usize > places {
-            Printed::Number(places as u32)
-        } else {
-            Printed::Number(released)
-        }
+        Printed(released.map(|number| number_shown(number, places)))
     }
 }
 
@@ -36,9 +35,9 @@ impl fmt::Display for Printed {
     ghost output = { λ p. Some (printed_text p) };
 
     fn fmt<W: fmt::Write>(&self, f: &mut fmt::Formatter<W>) -> fmt::Result {
-        match self {
-            Printed::None => f.write_str("none"),
-            Printed::Number(number) => f.write(*number),
+        match self.0 {
+            None => f.write_str("none"),
+            Some(number) => f.write(number),
         }
     }
 }

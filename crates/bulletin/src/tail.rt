@@ -1,7 +1,5 @@
 // How far off a released number may be, whatever the true count is.
 ghost use Rattle.std.specs.Prelude.{◌≡◌, Some};
-ghost use Rattle.roll.specs.Numbers.{total};
-ghost use Rattle.weights.specs.Ring.{our_weights};
 ghost use Rattle.bulletin.specs.Distance.{AllCounted, our_tails};
 ghost use Rattle.bulletin.specs.Shares.{heading_text, share_of, share_text, tail_text};
 
@@ -35,19 +33,12 @@ const TAILS: [Tail; 4] = [
     },
 ];
 
-// The table, entry by entry.
-fn entries() -> [Tail; 4]
-    ensures { result ≡ our_tails }
-{
-    TAILS
-}
-
 // The table of tails: each entry has the draws that move a number by more than its places, whatever the true count.
 pub fn tails() -> [Tail; 4]
     ensures table { result ≡ our_tails }
     ensures counted { AllCounted result }
 {
-    entries()
+    TAILS
 }
 
 // The line above the lines of the tails.
@@ -55,14 +46,6 @@ pub fn heading() -> &'static str
     ensures { result.now ≡ heading_text }
 {
     "each number may be off, whatever the true count:"
-}
-
-// How many draws there are.
-fn all_draws() -> u64
-    ensures sum { result ≡ total our_weights }
-    ensures size { result ≡ 9895604911578 }
-{
-    TOTAL
 }
 
 // So many draws of all draws, with the share that they are in hundredths of a per cent.
@@ -74,17 +57,18 @@ pub struct Share {
 }
 
 impl Tail {
-    // The share of the draws, to the nearest hundredth of a per cent, halves up.
+    // The share of the draws, to the nearest hundredth of a per cent, halves up. It is at most 10,000 and a half for each draw, so the cast is proved to lose nothing.
+    #[tactic(auto, using(weights::proofs::Ours::our_sum))]
     pub fn share(&self) -> Share
         ensures { result ≡ share_of self.now }
     {
-        let draws = self.draws;
-        let all = all_draws();
-        let hundredths = (20_000 * draws as u128 + all as u128) / (2 * all as u128);
+        let draws = u128::from(self.draws);
+        let all = u128::from(TOTAL);
+        let hundredths = (20_000 * draws + all) / (2 * all);
         Share {
             hundredths: hundredths as u64,
-            draws,
-            all,
+            draws: self.draws,
+            all: TOTAL,
         }
     }
 }

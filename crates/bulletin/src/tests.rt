@@ -9,7 +9,7 @@ use std::test::Fail;
 // Rolls of 5 and of 32,768 places.
 #[test]
 fn printed_forms(rt: HostRuntime) {
-    let cases: [(usize, u32, u32); 14] = [
+    let cases: [(usize, u16, u16); 14] = [
         (5, 0, 0),
         (5, 4, 4),
         (5, 5, 5),
@@ -26,10 +26,10 @@ fn printed_forms(rt: HostRuntime) {
         (32_768, 65_535, 0),
     ];
     for (places, released, printed) in cases {
-        assert_eq!(rt; Printed::of(released, places), Printed::Number(printed));
+        assert_eq!(rt; Printed::of(Some(released), places), Printed(Some(printed)));
     }
-    assert_eq!(rt; Printed::of(65_536, 5), Printed::None);
-    assert_eq!(rt; Printed::of(65_536, 32_768), Printed::None);
+    assert_eq!(rt; Printed::of(None, 5), Printed(None));
+    assert_eq!(rt; Printed::of(None, 32_768), Printed(None));
 }
 
 // Whether a value is written as this text.
@@ -43,14 +43,14 @@ fn lines_of_a_run(rt: HostRuntime) -> Result<(), Fail> {
     let heap = rt.alloc();
     let answer = Answer {
         analyst: 0,
-        released: &[1, 2, 65_535],
+        released: &[Some(1), Some(2), Some(65_535)],
         left: 0,
         places: 5,
     };
     shows(&rt, heap, &answer, "0 says 1 2 0 left 0")?;
     let answer = Answer {
         analyst: 31,
-        released: &[65_536],
+        released: &[None],
         left: 20,
         places: 5,
     };

@@ -1,7 +1,6 @@
 use Rattle.std.proofs.Common.{refl, ap, take_all}
 use Rattle.std.proofs.Output.{writes_in_calls_nil, has_written_of_eq}
-use Rattle.bulletin.specs.Lines.{numbers_text}
-use Rattle.bulletin.proofs.Writing.{put_number}
+use Rattle.bulletin.proofs.Writing.{put_number, released_text}
 use Rattle.bulletin.proofs.lines.NumbersDisplay.fmt.Goals as goal
 
 pub loop-released-init : goal.loop-released-init
@@ -16,4 +15,4 @@ loop-released-preserved g c plain =
 pub returns-clause-writes : goal.returns-clause-writes
 returns-clause-writes g c plain ok =
     let places = c.args.self.now.places in
-    has_written_of_eq g.W.Write.write_str_gives _ _ _ _ (ap (numbers_text places) (take_all _ _ c.loop-released-test.false)) (c.loop-released.invariant plain)
+    has_written_of_eq g.W.Write.write_str_gives _ _ _ _ (ap (released_text places) (take_all _ _ c.loop-released-test.false)) (c.loop-released.invariant plain)

@@ -6,7 +6,7 @@ use Rattle.curator.specs.Lines.{reject, edit_place, edit_unless, read_edit, ask_
 use Rattle.accountant.specs.Accountant.{query_in, query_of_line}
 
 -- an edit is no query, whether it is taken or refused
-pub no_query : (e : Option (ℕ × ℕ)) (place : ℕ) (row : Row) → query_in (edit_unless e place row) ≡ None
+no_query : (e : Option (ℕ × ℕ)) (place : ℕ) (row : Row) → query_in (edit_unless e place row) ≡ None
 no_query None place row = refl
 no_query (Some e) place row = refl
 

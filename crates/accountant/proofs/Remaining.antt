@@ -17,16 +17,6 @@ pub opened : (s : Standing) (budgets : List ℕ) (lines : List (List ℕ)) (os :
 unfolding audited
 opened s budgets lines os is = ap (λ x. audited_from 0 x lines os) is
 
--- whatever follows a line follows what it is entered as
-went : (i : ℕ) (x : Result Standing Flaw) (r : Standing) → Ok r ≡ then_on i x (λ t. Ok t) → (next : Standing → Result Standing Impossible) → next r ≡ then_on i x next
-went i (Ok t) r is next = let same : r ≡ t = cc in ap next same
-went i (Err f) r is next = let z : ◌≡◌ {A = ℕ} 0 1 = cc in absurd (omega arith)
-
--- and nothing follows what is impossible
-stopped : (i : ℕ) (x : Result Standing Flaw) (e : Impossible) → Err e ≡ then_on i x (λ t. Ok t) → (next : Standing → Result Standing Impossible) → Err e ≡ then_on i x next
-stopped i (Ok t) e is next = let z : ◌≡◌ {A = ℕ} 0 1 = cc in absurd (omega arith)
-stopped i (Err f) e is next = is
-
 module _ (i : ℕ) (s : Standing) (bytes : List ℕ) (os : List Given) where
   -- what is left gives this
   abbrev rest : Result Standing Impossible
@@ -81,10 +71,11 @@ module _ (i : ℕ) (s : Standing) (bytes : List ℕ) (os : List Given) where
           ∙ ap (λ b. then_on i (entered s line (outcome_of o)) (λ r. audited_from (i + 1) r (lines_in b) (map outcome_of (drop (i + 1) os)))) (sym follows)
 
       -- it is entered
-      pub goes_on :
-          (r : Standing) → Ok r ≡ then_on i (entered s line (outcome_of o)) (λ t. Ok t) → audited_from (i + 1) r (lines_in after) (map outcome_of (drop (i + 1) os)) ≡ rest
-      goes_on r is = went i (entered s line (outcome_of o)) r is _ ∙ sym next_line
+      pub goes_on : (r : Standing) → Ok r ≡ entered s line (outcome_of o) → audited_from (i + 1) r (lines_in after) (map outcome_of (drop (i + 1) os)) ≡ rest
+      goes_on r is = ap (λ x. then_on i x (λ t. audited_from (i + 1) t (lines_in after) (map outcome_of (drop (i + 1) os)))) is ∙ sym next_line
 
       -- or it is impossible
-      pub stops : (e : Impossible) → Err e ≡ then_on i (entered s line (outcome_of o)) (λ t. Ok t) → Err e ≡ rest
-      stops e is = stopped i (entered s line (outcome_of o)) e is _ ∙ sym next_line
+      pub stops : (flaw : Flaw) → Err flaw ≡ entered s line (outcome_of o) → Err (impossible i flaw) ≡ rest
+      stops flaw is = ap (λ x. then_on i x (λ t. audited_from (i + 1) t (lines_in after) (map outcome_of (drop (i + 1) os)))) is ∙ sym next_line
+
+pub ruleset remaining = (opened, ends, no_line, goes_on, stops)

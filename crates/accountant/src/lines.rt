@@ -49,11 +49,10 @@ impl fmt::Display for Accounts {
 impl fmt::Display for Left {
     ghost output = { λ l. Some (left_text (budgets_of l.0)) };
 
+    #[tactic(auto, using(std::proofs::lemmas::Grind::common_steps, crate::proofs::Texts::left_more))]
     fn fmt<W: fmt::Write>(&self, f: &mut fmt::Formatter<W>) -> fmt::Result {
-        let mut analyst = 0;
-        while let Some(units) = self.0.left(analyst) {
+        for units in self.0.as_slice() {
             write!(f, " {units}")?;
-            analyst += 1;
         }
         Ok(())
     }

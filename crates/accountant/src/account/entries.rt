@@ -19,17 +19,14 @@ use query::{Asked, Query};
 fn asked_in(line: &[u8]) -> Option<Asked>
     ensures { asked_of result ≡ query_of_line line.now }
 {
-    let command = match Command::read(line) {
-        Ok(command) => command,
-        Err(_) => return None,
-    };
-    match command {
+    match Command::read(line).ok()? {
         Command::Ask(asked) => Some(asked),
         Command::Edit { .. } => None,
     }
 }
 
 // How many cells a query has: as many as it has counts, over no rows too.
+#[tactic(auto, using(crate::proofs::Entries::counts_length))]
 fn cell_count(query: &Query) -> usize
     ensures { result ≡ length (cells (query_of query.now)) }
 {
@@ -59,27 +56,25 @@ impl Account {
     }
 
     // Lets an analyst pay, or says why that cannot be.
-    fn pay(self, analyst: usize, cost: u8) -> Result<Account, Flaw>
+    fn pay(mut self, analyst: usize, cost: u8) -> Result<Account, Flaw>
         ensures { reckoned result ≡ paying (standing_of self) analyst cost }
     {
         if self.budgets.left(analyst).is_none() {
             return Err(Flaw::NoSuchAnalyst);
         }
-        let (after, paid) = self.budgets.pay(analyst, cost);
-        match paid {
-            Ok(()) => Ok(Account {
-                budgets: after,
-                spent: self.spent + cost,
-            }),
-            Err(_) => Err(Flaw::BudgetTooLow),
-        }
+        self.budgets = self
+            .budgets
+            .pay(analyst, cost)
+            .map_err(|_| Flaw::BudgetTooLow)?;
+        self.spent += cost;
+        Ok(self)
     }
 
     // Charges a query to its analyst.
     fn charge(self, asked: &Asked) -> Result<Account, Flaw>
         ensures { reckoned result ≡ paying (standing_of self) asked.now.analyst (cost (query_of asked.now.query)) }
     {
-        self.pay(asked.analyst as usize, asked.query.cost())
+        self.pay(usize::from(asked.analyst), asked.query.cost())
     }
 
     // The account, where the analyst holds as many units as an answer tells.
@@ -96,12 +91,10 @@ impl Account {
     fn answered(self, line: &[u8], answer: &Answer) -> Result<Account, Flaw>
         ensures { reckoned result ≡ answer_to (standing_of self) (query_of_line line.now) answer.now.analyst (numbers_of answer.now.released) answer.now.left }
     {
-        let Some(asked) = asked_in(line) else {
-            return Err(Flaw::NoQuery);
-        };
+        let asked = asked_in(line).ok_or(Flaw::NoQuery)?;
         fits(&asked, answer)?;
         self.charge(&asked)?
-            .leaves(asked.analyst as usize, answer.left)
+            .leaves(usize::from(asked.analyst), answer.left)
     }
 
     // Enters a line with its outcome. An edit and a refused line cost nothing.

@@ -8,5 +8,5 @@ use Rattle.accountant.proofs.reckoning.audit.Given as goal
 -- the lines and outcomes that are left give the answer
 abbrev pub invariant-loop-at : goal.invariant-loop-at
 invariant-loop-at l =
-    audited_from l.at (standing_of l.account) (lines_in l.left) (map outcome_of (drop l.at l.outcomes))
+    audited_from l.at-counter (standing_of l.account) (lines_in l.left) (map outcome_of (drop l.at-counter l.outcomes))
     ≡ audited_from 0 (standing_of l.initial.account) (lines_in l.lines) (map outcome_of l.outcomes)

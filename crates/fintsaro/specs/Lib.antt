@@ -1,3 +1,4 @@
 pub mod Commands
 pub mod Openings
+pub mod Places
 pub mod Runs

@@ -1,16 +1,13 @@
 // What the words of the command line ask for.
-ghost use Rattle.std.specs.Prelude.{◌≡◌, ◌<◌, ◌≤◌, ◌&&◌, length, IfSome, if◌then◌else◌, Some, None, MatchOption, nat_le};
-ghost use Rattle.fintsaro.specs.Commands.{Servable};
+ghost use Rattle.std.specs.Prelude.{◌≡◌, ◌≢◌, ◌<◌, ◌↔◌, false, length, Some, MatchOption};
+ghost use Rattle.fintsaro.specs.Commands.{Servable, AsksUse, AsksRun};
 
-use roll::MOST_PLACES;
-
-// How many places are served where nothing else is said.
-const USUAL_PLACES: usize = 2_048;
+use crate::places::Places;
 
 // How a run is served: at most so many places, whether it is told how far off the numbers may be, and whether the accounts follow.
 #[derive(Clone, Copy, Debug, PartialEq)]
 pub struct Options {
-    pub places: usize,
+    pub places: Places,
     pub errors: bool,
     pub audit: bool,
 }
@@ -22,72 +19,64 @@ pub struct Files<'a> {
     pub tape: &'a str,
 }
 
+// What is asked for: to be told of the usage is a command too, and no lack of one.
 #[derive(Clone, Copy, Debug, PartialEq)]
 pub enum Command<'a> {
     Usage,
     Serve(Files<'a>, Options),
 }
 
-// A number of places that the desk can serve.
-pub fn served(places: usize) -> Option<usize>
-    ensures { result ≡ (if nat_le 1 places && nat_le places 32768 then Some places else None) }
-{
-    if places == 0 || places > MOST_PLACES {
-        return None;
-    }
-    Some(places)
-}
-
-// The number of places that a word spells.
-fn places_of(word: &str) -> Option<usize>
-    ensures { IfSome result (λ n. (1 ≤ n) × (n ≤ 32768)) }
-{
-    let Ok(places) = word.parse::<usize>() else {
-        return None;
-    };
-    served(places)
-}
-
-// The options that the words begin with, and the words after them.
-fn options_of<'a, 'b>(words: &'b [&'a str]) -> Option<(Options, &'b [&'a str])>
-    ensures { IfSome result (λ p. (1 ≤ p.0.places) × (p.0.places ≤ 32768)) }
-{
-    let mut options = Options {
-        places: USUAL_PLACES,
+impl Options {
+    // Those of a run of which nothing is said.
+    const USUAL: Options = Options {
+        places: Places::USUAL,
         errors: false,
         audit: false,
     };
-    let mut rest = words;
-    for _ in 0..words.len() {
-        match rest {
-            ["--places", number, after @ ..] => {
-                options.places = places_of(number)?;
-                rest = after;
-            }
-            ["--errors", after @ ..] => {
-                options.errors = true;
-                rest = after;
-            }
-            ["--audit", after @ ..] => {
-                options.audit = true;
-                rest = after;
-            }
-            _ => break,
+}
+
+// The run that the words ask for, after options that stand before them.
+fn run_of<'a>(options: Options, words: &[&'a str]) -> Option<Command<'a>>
+    ensures run { AsksRun options.places.number options.errors options.audit words.now result }
+    ensures no_usage { result ≢ Some Command.Usage }
+{
+    let (word, rest) = words.split_first()?;
+    match *word {
+        "--places" => {
+            let (number, rest) = rest.split_first()?;
+            let places = number.parse().ok()?;
+            run_of(Options { places, ..options }, rest)
+        }
+        "--errors" => run_of(
+            Options {
+                errors: true,
+                ..options
+            },
+            rest,
+        ),
+        "--audit" => run_of(
+            Options {
+                audit: true,
+                ..options
+            },
+            rest,
+        ),
+        run => {
+            let (tape, rest) = rest.split_first()?;
+            rest.is_empty()
+                .then_some(Command::Serve(Files { run, tape }, options))
         }
     }
-    Some((options, rest))
 }
 
 // The command that the words after the program's name spell, if they spell one.
 pub fn command_of<'a>(words: &[&'a str]) -> Option<Command<'a>>
-    ensures { MatchOption result (0 < length words.now) Servable }
+    ensures servable { MatchOption result (0 < length words.now) Servable }
+    ensures usage { (result ≡ Some Command.Usage) ↔ AsksUse words.now }
+    ensures run { ¬ (AsksUse words.now) → AsksRun 2048 false false words.now result }
 {
-    if let [] | ["--help"] = words {
-        return Some(Command::Usage);
+    match words {
+        [] | ["--help"] => Some(Command::Usage),
+        _ => run_of(Options::USUAL, words),
     }
-    let (options, rest) = options_of(words)?;
-    let [run, tape] = rest else {
-        return None;
-    };
-    Some(Command::Serve(Files { run, tape }, options))
 }

@@ -2,11 +2,12 @@
 #![tactic(auto)]
 
 mod command;
+mod places;
 mod printer;
 mod run_file;
 
 use accountant::{Accounts, audit};
-use anyhow::anyhow;
+use anyhow::{anyhow, ensure};
 use budget::Budgets;
 use bulletin::RefusedOpening;
 use command::{Command, Files, Options, command_of};
@@ -24,13 +25,10 @@ RUN has the opening of a desk and its lines, TAPE its words of chance.
 
 // The bytes of a file; where it cannot be read, that is told.
 fn read_file(rt: &HostRuntime, path: &str) -> anyhow::Result<Vec<u8>> {
-    match fs::read(rt, path) {
-        Ok(bytes) => Ok(bytes),
-        Err(e) => {
-            eprintln!(rt; "fintsaro: cannot read {path}: {e}")?;
-            Err(e.into())
-        }
-    }
+    fs::read(rt, path).or_else(|e| {
+        eprintln!(rt; "fintsaro: cannot read {path}: {e}")?;
+        Err(e.into())
+    })
 }
 
 // Prints the accounts of a run: what the accountant works out from the opening's budgets, the lines and the outcomes. It is what the curator's budgets hold.
@@ -40,18 +38,15 @@ fn print_accounts(
     outcomes: &[Outcome],
     left: Budgets,
 ) -> anyhow::Result<()> {
-    let Some(parts) = split(file) else {
-        return Err(anyhow!("no accounts without an opening"));
-    };
-    let Ok(opening) = Budgets::open(parts.budgets) else {
-        return Err(anyhow!("no accounts without budgets"));
-    };
-    let Ok(account) = audit(opening, parts.lines, outcomes) else {
-        return Err(anyhow!("the accountant finds an outcome that no run gives"));
-    };
-    if account.budgets().total() != left.total() {
-        return Err(anyhow!("the accountant and the curator differ"));
-    }
+    let parts = split(file).ok_or_else(|| anyhow!("no accounts without an opening"))?;
+    let opening = Budgets::open(parts.budgets).map_err(|_| anyhow!("no accounts without budgets"))?;
+    let account = audit(opening, parts.lines, outcomes).map_err(|_| anyhow!(
+        "the accountant finds an outcome that no run gives"
+    ))?;
+    ensure!(
+        account.budgets() == left,
+        "the accountant and the curator differ"
+    );
     Ok(rt.println(Accounts::of(&opening, &account))?)
 }
 
@@ -63,33 +58,33 @@ fn serve(rt: &HostRuntime, files: Files, options: Options) -> anyhow::Result<()>
         rt,
         places: places_in(file.as_slice()).unwrap_or(0),
         errors: options.errors,
-        kept: if options.audit {
-            Some(Vec::new(rt.alloc()))
-        } else {
-            None
-        },
+        kept: options.audit.then(|| Vec::new(rt.alloc())),
         printed: Ok(()),
     };
-    let served = serve_file(&mut file[..], options.places, tape.as_slice(), &mut printer);
+    let served = serve_file(
+        &mut file[..],
+        options.places.get(),
+        tape.as_slice(),
+        &mut printer,
+    );
     let Printer { kept, printed, .. } = printer;
     printed?;
-    match served {
-        Err(refusal) => rt.println(RefusedOpening(refusal))?,
-        Ok(left) => {
-            if let Some(outcomes) = kept {
-                print_accounts(rt, &mut file[..], outcomes.as_slice(), left)?;
-            }
+    match (served, kept) {
+        (Err(refusal), _) => Ok(rt.println(RefusedOpening(refusal))?),
+        (Ok(left), Some(outcomes)) => {
+            print_accounts(rt, &mut file[..], outcomes.as_slice(), left)
         }
+        (Ok(_), None) => Ok(()),
     }
-    Ok(())
 }
 
 fn main(rt: HostRuntime) -> anyhow::Result<()> {
     let args: Vec<String> = env::args(&rt)?.collect(rt.alloc())?;
-    let mut words = Vec::new(rt.alloc());
-    for word in args.iter().skip(1) {
-        words.push(word.as_str())?;
-    }
+    let words: Vec<&str> = args
+        .iter()
+        .skip(1)
+        .map(|word| word.as_str())
+        .collect(rt.alloc())?;
     match command_of(words.as_slice()) {
         Some(Command::Serve(files, options)) => serve(&rt, files, options),
         Some(Command::Usage) => Ok(rt.print(USAGE)?),

@@ -1,5 +1,6 @@
 // What is printed of a run.
-ghost use Rattle.std.specs.Prelude.{◌≡◌};
+ghost use Rattle.std.specs.Prelude.{◌≡◌, map};
+ghost use Rattle.noise.specs.Release.{released_number};
 ghost use Rattle.noise.specs.Released.{numbers_of};
 
 use bulletin::{Answer, RefusedLine, heading, tails};
@@ -18,7 +19,7 @@ pub struct Printer<'a> {
 
 // The line of an answer from a roll of so many places.
 fn line_of(answer: &Given, places: usize) -> Answer<'_>
-    ensures { (result.analyst ≡ answer.now.analyst) × (result.released.now ≡ numbers_of answer.now.released) × (result.left ≡ answer.now.left) × (result.places ≡ places) }
+    ensures { (result.analyst ≡ answer.now.analyst) × (map released_number result.released.now ≡ numbers_of answer.now.released) × (result.left ≡ answer.now.left) × (result.places ≡ places) }
 {
     Answer {
         analyst: answer.analyst,

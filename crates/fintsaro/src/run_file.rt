@@ -30,19 +30,11 @@ fn roll_size(places: usize) -> usize
 pub fn split(file: &mut [u8]) -> Option<Parts<'_>>
     ensures { MatchOption result (whole file.old ≡ false) (λ p. (whole file.old ≡ true) × (p.places ≡ place_count file.old) × (p.roll.now ≡ roll_bytes file.old) × (p.budgets.now ≡ budget_bytes file.old) × (p.lines.now ≡ line_bytes file.old)) }
 {
-    let Some((size, rest)) = file.split_at_mut_checked(2) else {
-        return None;
-    };
+    let (size, rest) = file.split_at_mut_checked(2)?;
     let places = two_bytes(size[0], size[1]);
-    let Some((roll, rest)) = rest.split_at_mut_checked(roll_size(places)) else {
-        return None;
-    };
-    let Some((analysts, rest)) = rest.split_first() else {
-        return None;
-    };
-    let Some((budgets, lines)) = rest.split_at_checked(*analysts as usize) else {
-        return None;
-    };
+    let (roll, rest) = rest.split_at_mut_checked(roll_size(places))?;
+    let (analysts, rest) = rest.split_first()?;
+    let (budgets, lines) = rest.split_at_checked(usize::from(*analysts))?;
     Some(Parts {
         places,
         roll,
@@ -73,15 +65,12 @@ pub fn serve_file<'t, J: Journal>(
     ensures told { ToldOf J.notes (is_ok result) file.old tape.now journal.old journal.new }
     ensures holds { IfOk result (λ b. budgets_of b ≡ (final file.old tape.now).budgets) }
 {
-    let Some(parts) = split(file) else {
-        return Err(Refusal::RollSize);
-    };
     let Parts {
         places,
         roll,
         budgets,
         lines,
-    } = parts;
+    } = split(file).ok_or(Refusal::RollSize)?;
     if places > most_places {
         return Err(Refusal::RollSize);
     }

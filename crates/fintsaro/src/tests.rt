@@ -1,5 +1,6 @@
 // Openings of run files, whole and cut.
-use crate::command::{Command, Files, Options, command_of, served};
+use crate::command::{Command, Files, Options, command_of};
+use crate::places::{NotServed, Places};
 use crate::run_file::serve_file;
 use curator::{Journal, Outcome};
 use roll::Refusal;
@@ -61,26 +62,29 @@ fn cut_openings(rt: HostRuntime) {
 
 #[test]
 fn places(rt: HostRuntime) {
-    assert_eq!(rt; served(0), None);
-    assert_eq!(rt; served(1), Some(1));
-    assert_eq!(rt; served(32_768), Some(32_768));
-    assert_eq!(rt; served(32_769), None);
+    assert_eq!(rt; Places::try_from(0), Err(NotServed));
+    assert_eq!(rt; Places::try_from(1).map(|places| places.get()), Ok(1));
+    assert_eq!(rt;
+        Places::try_from(32_768).map(|places| places.get()),
+        Ok(32_768)
+    );
+    assert_eq!(rt; Places::try_from(32_769), Err(NotServed));
 }
 
 // The words of the command line, options first.
 #[test]
-fn commands(rt: HostRuntime) {
+fn commands(rt: HostRuntime) -> Result<(), NotServed> {
     let files = Files {
         run: "a",
         tape: "b",
     };
     let usual = Options {
-        places: 2_048,
+        places: Places::USUAL,
         errors: false,
         audit: false,
     };
     let all = Options {
-        places: 32_768,
+        places: Places::try_from(32_768)?,
         errors: true,
         audit: true,
     };
@@ -95,4 +99,5 @@ fn commands(rt: HostRuntime) {
     assert_eq!(rt; command_of(&["--places", "32769", "a", "b"]), None);
     assert_eq!(rt; command_of(&["a"]), None);
     assert_eq!(rt; command_of(&["a", "b", "c"]), None);
+    Ok(())
 }

@@ -1,6 +1,5 @@
 -- The walk along some weights, with the place and the draw as they stand.
-use Rattle.std.proofs.Common.{◌≡◌, ℕ, ◌+◌, ◌-◌, ◌<◌, ◌≤◌, cond, ltb, List, [], ◌∷◌, length, get_or, drop, Ok, Err, Result, ap, ◌∙◌, zero-add, arith}
-use Rattle.std.proofs.lemmas.List.{at_drop_more, at_drop_all}
+use Rattle.std.proofs.Common.{◌≡◌, ℕ, ◌+◌, ◌-◌, ◌<◌, ◌≤◌, cond, ltb, List, [], ◌∷◌, Ok, Err, Result, ap, ◌∙◌, zero-add, arith}
 use Rattle.std.proofs.lemmas.Bool.Decides.{nat_tests}
 use Rattle.roll.specs.Numbers.{total}
 use Rattle.weights.specs.Ring.{offset_of, walked}
@@ -19,20 +18,6 @@ walked_is j (w ∷ ws) u = let rest = walked_is (j + 1) ws (u - w) in grind (ari
 -- from the first place on
 pub walked_all : (ws : List ℕ) (u : ℕ) → walked_from 0 ws u ≡ walked ws u
 walked_all ws u = walked_is 0 ws u ∙ ap (λ n. cond (ltb u (total ws)) (Ok n) (Err (u - total ws))) (zero-add (offset_of ws u))
-
--- one turn of the walk at place i
-module _ (ws : List ℕ) (i u : ℕ) where
-  -- it falls there
-  pub falls_here : i < length ws → u < get_or ws i 0 → walked_from i (drop i ws) u ≡ Ok i
-  falls_here h lt = at_drop_more (λ l. walked_from i l u) ws i 0 h ∙ grind (arith, nat_tests)
-
-  -- it goes on
-  pub goes_on : i < length ws → get_or ws i 0 ≤ u → walked_from i (drop i ws) u ≡ walked_from (i + 1) (drop (i + 1) ws) (u - get_or ws i 0)
-  goes_on h le = at_drop_more (λ l. walked_from i l u) ws i 0 h ∙ grind (arith, nat_tests)
-
-  -- there is no place i
-  pub past_all : length ws ≤ i → walked_from i (drop i ws) u ≡ Err u
-  past_all h = at_drop_all (λ l. walked_from i l u) ws i h
 
 -- what a walk says of the draw: it falls among the weights
 pub walked_ok : (ws : List ℕ) (u p : ℕ) → Ok p ≡ walked ws u → (u < total ws) × (p ≡ offset_of ws u)

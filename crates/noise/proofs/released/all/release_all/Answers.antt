@@ -28,12 +28,6 @@ loop-count-preserved c =
       omega (arith, ap length pushed, length-append before (number ∷ []), ap length first, c.loop-count.invariant.1),
     )
 
-pub returns-in_err-ok : goal.returns-in_err-ok
-returns-in_err-ok c =
-    let (first, second) = c.in-Some.ensures.steps in
-    let full : length (listed c.loop-count.numbers) ≡ 64 = search rules in
-    rw c.from_residual.ensures (omega (arith, ap length first, c.loop-count.invariant.1))
-
 pub returns : goal.returns
 returns c =
     let counts = iter_rest c.loop-count.count-iterator.a in

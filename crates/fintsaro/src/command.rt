@@ -36,37 +36,36 @@ impl Options {
 }
 
 // The run that the words ask for, after options that stand before them.
-fn run_of<'a>(options: Options, words: &[&'a str]) -> Option<Command<'a>>
+fn run_of<'a>(mut options: Options, words: &[&'a str]) -> Option<Command<'a>>
     ensures run { AsksRun options.places.number options.errors options.audit words.now result }
     ensures no_usage { result ≢ Some Command.Usage }
 {
-    let (word, rest) = words.split_first()?;
-    match *word {
-        "--places" => {
-            let (number, rest) = rest.split_first()?;
-            let places = number.parse().ok()?;
-            run_of(Options { places, ..options }, rest)
-        }
-        "--errors" => run_of(
-            Options {
-                errors: true,
-                ..options
-            },
-            rest,
-        ),
-        "--audit" => run_of(
-            Options {
-                audit: true,
-                ..options
-            },
-            rest,
-        ),
-        run => {
-            let (tape, rest) = rest.split_first()?;
-            rest.is_empty()
-                .then_some(Command::Serve(Files { run, tape }, options))
+    let mut left = words;
+    while let [word, rest @ ..] = left {
+        match *word {
+            "--places" => {
+                let [number, rest @ ..] = rest else {
+                    return None;
+                };
+                options.places = number.parse().ok()?;
+                left = rest;
+            }
+            "--errors" => {
+                options.errors = true;
+                left = rest;
+            }
+            "--audit" => {
+                options.audit = true;
+                left = rest;
+            }
+            run => {
+                let (tape, rest) = rest.split_first()?;
+                let files = Files { run, tape };
+                return rest.is_empty().then_some(Command::Serve(files, options));
+            }
         }
     }
+    None
 }
 
 // The command that the words after the program's name spell, if they spell one.

@@ -2,6 +2,7 @@
 use Rattle.std.proofs.Common.{◌≡◌, ℕ, ◌+◌, ◌%◌, ◌<◌, ◌≤◌, Bool, true, false, cond, List, length, Some, None, sym, refl, ap, ◌∙◌, mod-lt, arith, lit<}
 use Rattle.std.proofs.lemmas.Bool.{cond-true, lt-ltb, le-leb}
 use Rattle.std.proofs.lemmas.Bool.Decides.{nat_tests}
+use Rattle.std.proofs.lemmas.Option.{same_Some}
 use Rattle.roll.specs.Numbers.{total}
 use Rattle.weights.specs.Ring.{offset_of, our_weights, our_offset}
 use Rattle.weights.proofs.Ours.{our_places, our_sum}
@@ -55,3 +56,7 @@ passed false x y e = refl
 -- the number released where there are four words
 pub from_four : (c : ℕ) (bytes : List ℕ) (a : ℕ) → 32 ≤ length bytes → a ≡ released our_dial c (first_words 4 bytes) → Some a ≡ our_release c bytes
 from_four c bytes a h e = ap Some e ∙ sym (cond-true _ _ _ (le-leb 32 (length bytes) h))
+
+-- what is released from four words is the number released
+pub as_four : (c : ℕ) (bytes : List ℕ) (a : ℕ) → 32 ≤ length bytes → Some a ≡ our_release c bytes → a ≡ released our_dial c (first_words 4 bytes)
+as_four c bytes a h e = same_Some a _ (e ∙ cond-true _ _ _ (le-leb 32 (length bytes) h))

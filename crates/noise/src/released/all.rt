@@ -4,7 +4,7 @@ ghost use Rattle.noise.specs.Release.{released_number};
 ghost use Rattle.noise.specs.Released.{ReleasedAll, numbers_of};
 
 use super::{CELLS, Released};
-use crate::{CELL_BYTES, Page, cell_number};
+use crate::{CELL_BYTES, Page, release};
 use roll::UpTo;
 
 impl Released {
@@ -32,7 +32,7 @@ pub fn release_all(counts: &[usize], page: &Page) -> Option<Released>
     }
     let mut numbers = UpTo::new();
     for (count, cell) in counts.iter().zip(page.as_chunks::<CELL_BYTES>().0) {
-        numbers.push(cell_number(*count, cell)).ok()?;
+        numbers.push(release(*count, cell)?).ok()?;
     }
     Some(Released { numbers })
 }

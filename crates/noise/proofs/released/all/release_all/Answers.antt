@@ -1,9 +1,10 @@
-use Rattle.std.proofs.Common.{rules, ◌≡◌, ◌/◌, ◌++◌, ◌⊎◌, [], ◌∷◌, length, map, arith, ap, ap₂, ◌∙◌, sym, append-nil, length-append}
+use Rattle.std.proofs.Common.{rules, ◌≡◌, ◌/◌, ◌++◌, ◌⊎◌, [], ◌∷◌, length, map, arith, ap, ap₂, ◌∙◌, sym, append-nil, length-append, option_map, Some}
 use Rattle.std.specs.Slice.Iter.{iter_rest}
 use Rattle.std.specs.Simd.{first_chunks}
 use Rattle.roll.specs.Lists.{listed}
 use Rattle.noise.specs.Release.{released_number}
 use Rattle.noise.proofs.Cells.{from_cells, page_cells, cell_more, none_left}
+use Rattle.noise.proofs.Turns.{as_four}
 use Rattle.noise.proofs.released.all.release_all.Goals as goal
 
 pub loop-count-init : goal.loop-count-init
@@ -22,9 +23,10 @@ pub loop-count-preserved : goal.loop-count-preserved
 loop-count-preserved c =
     let (first, second) = c.in-Some.ensures.steps in
     let before = listed c.loop-count.numbers in
-    let number = c.cell_number.result in
+    let number = c.in_ok-release.field-0 in
+    let gave : c.release.result ≡ Some number = search rules in
     let pushed : listed c.push.new.self ≡ before ++ number ∷ [] = search rules in (
-      cell_more before (listed c.push.new.self) number pushed first second c.cell_number.ensures c.loop-count.invariant.0,
+      cell_more before (listed c.push.new.self) number pushed first second (as_four _ _ _ (omega arith) (ap (option_map released_number) (sym gave) ∙ c.release.ensures)) c.loop-count.invariant.0,
       omega (arith, ap length pushed, length-append before (number ∷ []), ap length first, c.loop-count.invariant.1),
     )
 

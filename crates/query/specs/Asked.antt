@@ -1,8 +1,10 @@
 -- What a query in memory stands for, and what its reader hands back.
-use Rattle.std.specs.Prelude.{◌≡◌, ℕ, ◌≤◌, true, false, List, length, Some, None, Ok, Err, Option, Result, slice_index}
+use Rattle.std.specs.Prelude.{◌≡◌, ℕ, ◌≤◌, true, false, List, length, drop, Some, None, Ok, Err, Option, Result, slice_index}
 use Rattle.roll.specs.declared.refusal.Refusal.{Refusal}
+use Rattle.roll.specs.declared.rest.Rest.{Rest}
 use Rattle.roll.specs.Lists.{listed}
 use Rattle.roll.specs.Predicates.{Predicate, counted}
+use Rattle.roll.specs.Reading.{place_in}
 use Rattle.roll.specs.Refusals.{number, place}
 use Rattle.roll.specs.Rows.{Row}
 use Rattle.roll.specs.Stored.{predicate_of}
@@ -26,6 +28,10 @@ query_of (Table p f c) = table_of (predicate_of p) f.number (cuts_of c)
 -- the counts of the cells, in their order
 abbrev pub numbers_of : Counts → List ℕ
 numbers_of c = listed c.0
+
+-- a rest of the line: the bytes from its place on to the end of the line
+abbrev pub RestOf : List ℕ → Rest → Type 0
+RestOf line r = (r.end ≡ length line) × (drop (place_in r.end r.bytes.now) line ≡ r.bytes.now)
 
 -- a check of some bytes: where it passes, whatever is read after them is what is read, and where it fails it is the refusal
 abbrev pub Check : {X : Type 0} → Result X Refusal → (Asking → Asking) → Type 0

@@ -78,12 +78,13 @@ impl Query {
     pub fn true_counts(&self, rows: &[Row]) -> Counts
         ensures { numbers_of result ≡ counts (cells (query_of self.now)) rows.now }
     {
-        let partition = match self {
+        match self {
             Query::Count { predicate } => Partition {
                 predicate,
                 field: Field::first(),
                 cuts: &[],
-            },
+            }
+            .counts(rows),
             Query::Table {
                 predicate,
                 field,
@@ -92,8 +93,8 @@ impl Query {
                 predicate,
                 field: *field,
                 cuts: cuts.as_slice(),
-            },
-        };
-        partition.counts(rows)
+            }
+            .counts(rows),
+        }
     }
 }

@@ -1,6 +1,8 @@
 // Reading a query from the bytes of a line.
 ghost use Rattle.std.specs.Prelude.{◌≡◌, ◌<◌, ◌≤◌, true, ◌||◌, MatchOption, ◌==◌, nat_lt};
-ghost use Rattle.query.specs.Asked.{Answered, ReadAs};
+ghost use Rattle.roll.specs.Reading.{read_predicate};
+ghost use Rattle.roll.specs.Stored;
+ghost use Rattle.query.specs.Asked.{Answered, ReadAs, RestOf};
 ghost use Rattle.query.specs.Lines.{count_line, table_line, read_query};
 
 use super::kind::Kind;
@@ -18,16 +20,26 @@ fn cut_count(byte: u8) -> Option<usize>
     }
 }
 
+// The predicate that is all that is left of a line.
+fn read_predicate(line: &[u8], rest: Rest) -> Result<Predicate, Refusal>
+    requires { RestOf line.now rest }
+    ensures { Stored.ReadAs result (read_predicate rest.entry.end rest.entry.bytes.now) }
+{
+    Predicate::read(line, rest.at())
+}
+
 // A count: its predicate to the end of the line.
-fn read_count(rest: Rest) -> Result<Query, Refusal>
+fn read_count(line: &[u8], rest: Rest) -> Result<Query, Refusal>
+    requires { RestOf line.now rest }
     ensures { ReadAs result (λ a. count_line rest.entry.end a rest.entry.bytes.now) }
 {
-    let predicate = Predicate::parse(rest)?;
+    let predicate = read_predicate(line, rest)?;
     Ok(Query::Count { predicate })
 }
 
 // A table: its field and its cuts, and its predicate to the end of the line.
-fn read_table(rest: Rest) -> Result<Query, Refusal>
+fn read_table(line: &[u8], rest: Rest) -> Result<Query, Refusal>
+    requires { RestOf line.now rest }
     ensures { ReadAs result (λ a. table_line rest.entry.end a rest.entry.bytes.now) }
 {
     let (field, rest) = rest.byte()?;
@@ -39,7 +51,7 @@ fn read_table(rest: Rest) -> Result<Query, Refusal>
         return Err(Refusal::CutCount);
     };
     let (cuts, rest) = Cuts::read(rest, n)?;
-    let predicate = Predicate::parse(rest)?;
+    let predicate = read_predicate(line, rest)?;
     Ok(Query::Table {
         predicate,
         field,
@@ -56,8 +68,8 @@ impl Query {
         let (analyst, rest) = rest.byte()?;
         let (kind, rest) = rest.byte()?;
         let query = match Kind::try_from(kind)? {
-            Kind::Count => read_count(rest)?,
-            Kind::Table => read_table(rest)?,
+            Kind::Count => read_count(line, rest)?,
+            Kind::Table => read_table(line, rest)?,
         };
         Ok(Asked { analyst, query })
     }

@@ -1,14 +1,12 @@
 use Rattle.std.proofs.Common.{refl, ◌∙◌}
 use Rattle.query.specs.Query.{cells, cut}
 use Rattle.query.proofs.query.Query.true_counts.Goals as goal
-use Rattle.query.proofs.query.Query.true_counts.Goals.{in-Count, in-Table}
 
 -- a count is a table with no cuts
-pub returns : goal.returns
+pub returns-in-Count : goal.returns-in-Count
 unfolding cut cells
-returns c =
-    c.counts.ensures
-    ∙ elim c.match-self.branch [
-      | in-Count w ↦ rw (w.partition-is, w.in-Count.is) refl
-      | in-Table w ↦ rw (w.partition-is, w.in-Table.is, w.as_slice.ensures) refl
-    ]
+returns-in-Count c = c.counts.ensures ∙ rw c.in-Count.is refl
+
+pub returns-in-Table : goal.returns-in-Table
+unfolding cells
+returns-in-Table c = c.counts-in-Table.ensures ∙ rw (c.in-Table.is, c.as_slice.ensures) refl

@@ -1,17 +1,15 @@
 -- What a query leads to, by its verdict.
-use Rattle.std.proofs.Common.{◌≡◌, ℕ, ◌-◌, ◌<◌, ◌≤◌, List, length, get_or, take, drop, set, Some, None, unwrap_or, Ok, Err, Result, is_ok, if◌then◌else◌, sym, refl, ap, ◌∙◌, ⊎_elim, arith, length-set, get_or-set_same}
+use Rattle.std.proofs.Common.{◌≡◌, ℕ, ◌-◌, ◌<◌, ◌≤◌, List, length, get_or, take, drop, set, Some, None, unwrap_or, Option, sym, refl, ap, ◌∙◌, ⊎_elim, arith, length-set, get_or-set_same}
 use Rattle.std.proofs.lemmas.List.{set-get_or, get_or_past}
 use Rattle.std.proofs.lemmas.Bool.{cases_lt, cond-true, cond-false, lt-ltb, le-ltb}
-use Rattle.roll.specs.declared.refusal.Refusal.{Refusal}
-use Rattle.roll.specs.Refusals.{refusal_of}
 use Rattle.roll.specs.Rows.{Row}
 use Rattle.query.specs.Query.{Query, cells, cost, counts}
 use Rattle.noise.specs.Dial.{Dial}
 use Rattle.noise.specs.Release.{all_released}
 use Rattle.budget.specs.Budget.{held, pay}
 use Rattle.curator.specs.Lines.{Command, ask, reject, edit_unless}
-use Rattle.curator.specs.Served.{or_refused}
-use Rattle.curator.specs.Curator.{Outcome, answered, edited, refused, State, opening, verdict, by_verdict, taken, reply, charge, price, paid, edited_roll, outcome, step, Leads}
+use Rattle.curator.specs.Served.{edit_outcome}
+use Rattle.curator.specs.Curator.{Outcome, answered, refused, State, opening, verdict, by_verdict, taken, reply, charge, price, paid, edited_roll, outcome, step, Leads}
 
 -- who pays nothing holds what was held
 pay_nothing : (budgets : List ℕ) (analyst : ℕ) → pay budgets analyst 0 ≡ budgets
@@ -105,10 +103,10 @@ module _ {d : Dial} {s t : State} where
   pub by_command : {c e : Command} {o : Outcome} → c ≡ e → Leads d s e o t → Leads d s c o t
   by_command same led = rw same led
 
-  -- an edit that is taken changes the rows alone, and one that is refused changes nothing
+  -- an edit changes the rows at most, and one that is refused changes nothing
   pub edited_turn :
-      {c : Command} {o : Outcome} (place : ℕ) (row : Row) (r : Result Unit Refusal) → c ≡ edit_unless (refusal_of r) place row → o ≡ or_refused (λ u. edited) r →
-      t.roll ≡ (if is_ok r then set s.roll place row else s.roll) → t.budgets ≡ s.budgets → t.tape ≡ s.tape → Leads d s c o t
-  unfolding outcome step reply taken paid edited_roll
-  edited_turn place row (Ok u) same is r b w = rw (same, is) (record { outcome_is = refl; state_is = same_state r b w })
-  edited_turn place row (Err e) same is r b w = rw (same, is) (record { outcome_is = refl; state_is = same_state r b w })
+      {c : Command} {o : Outcome} (e : Option (ℕ × ℕ)) (place : ℕ) (row : Row) → c ≡ edit_unless e place row → o ≡ edit_outcome e →
+      t.roll ≡ edited_roll s.roll (edit_unless e place row) → t.budgets ≡ s.budgets → t.tape ≡ s.tape → Leads d s c o t
+  unfolding outcome step reply taken paid
+  edited_turn None place row same is r b w = rw (same, is) (record { outcome_is = refl; state_is = same_state r b w })
+  edited_turn (Some e) place row same is r b w = rw (same, is) (record { outcome_is = refl; state_is = same_state r b w })

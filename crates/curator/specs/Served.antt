@@ -1,5 +1,5 @@
 -- What a line, an outcome and a curator in memory stand for.
-use Rattle.std.specs.Prelude.{◌≡◌, ℕ, List, length, Ok, Err, Result, MatchResult, ◌≢◌, is_ok, if◌then◌else◌}
+use Rattle.std.specs.Prelude.{◌≡◌, ℕ, List, length, Some, None, Ok, Err, Option, Result, MatchResult, ◌≢◌, is_ok, if◌then◌else◌}
 use Rattle.roll.specs.declared.refusal.Refusal.{Refusal}
 use Rattle.roll.specs.declared.refusal.Refusal.TheVariants.{LineKind}
 use Rattle.roll.specs.Refusals.{number, place}
@@ -67,6 +67,11 @@ abbrev pub outcome_of : Given → Outcome
 outcome_of (Answered a) = answer_of a
 outcome_of Edited = edited
 outcome_of (Refused e) = refused (number e) (place e)
+
+-- what an edit leads to, by its refusal
+abbrev pub edit_outcome : Option (ℕ × ℕ) → Outcome
+edit_outcome None = edited
+edit_outcome (Some e) = refused e.0 e.1
 
 -- the outcome of what was done, or of its refusal
 abbrev pub or_refused : {X : Type 0} → (X → Outcome) → Result X Refusal → Outcome

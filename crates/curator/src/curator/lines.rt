@@ -1,7 +1,7 @@
 // What the curator does with a line.
 ghost use Rattle.std.specs.Prelude.{◌≡◌, ◌<◌, ◌≤◌, length, take, drop, IfOk, MatchOption};
 ghost use Rattle.roll.specs.Refusals.{refusal_of};
-ghost use Rattle.roll.specs.Rows.{rows_of};
+ghost use Rattle.roll.specs.Rows.{rows_of, edit_refusal};
 ghost use Rattle.query.specs.Asked.{query_of};
 ghost use Rattle.query.specs.Query.{cells, counts};
 ghost use Rattle.noise.specs.Dial.{our_dial};
@@ -9,9 +9,9 @@ ghost use Rattle.noise.specs.Release.{all_released};
 ghost use Rattle.noise.specs.Released.{numbers_of};
 ghost use Rattle.noise.specs.Words.{words_of};
 ghost use Rattle.budget.specs.Budget.{budgets_of, payment_refusal};
-ghost use Rattle.curator.specs.Lines.{read_line};
-ghost use Rattle.curator.specs.Curator.{verdict, outcome, step, Leads};
-ghost use Rattle.curator.specs.Served.{ask_of, answer_of, outcome_of, or_refused, charged, cost_of, taken_by, state_by};
+ghost use Rattle.curator.specs.Lines.{edit_unless, read_line};
+ghost use Rattle.curator.specs.Curator.{verdict, outcome, step, edited_roll, Leads};
+ghost use Rattle.curator.specs.Served.{ask_of, answer_of, outcome_of, edit_outcome, or_refused, charged, cost_of, taken_by, state_by};
 
 use super::Curator;
 use crate::{Answer, Command, Outcome};
@@ -28,6 +28,17 @@ fn release_query(query: &Query, rows: &[Row], page: &Page) -> Released
         unreachable()
     };
     released
+}
+
+// Gives a place another row, or refuses to.
+fn edit(roll: &mut Roll, place: usize, row: &Row) -> Outcome
+    ensures outcome { outcome_of result ≡ edit_outcome (edit_refusal (length (rows_of roll.old)) place row.now) }
+    ensures after { rows_of roll.new ≡ edited_roll (rows_of roll.old) (edit_unless (edit_refusal (length (rows_of roll.old)) place row.now) place row.now) }
+{
+    match roll.edit(place, row) {
+        Ok(()) => Outcome::Edited,
+        Err(refusal) => Outcome::Refused(refusal),
+    }
 }
 
 impl<'t> Curator<'t> {
@@ -79,13 +90,14 @@ impl<'t> Curator<'t> {
         })
     }
 
-    // Does what a line asks for, or refuses it.
-    fn take(&mut self, roll: &mut Roll, line: &[u8]) -> Result<Outcome, Refusal>
-        ensures { Leads our_dial (state_by self.old (rows_of roll.old)) (read_line (length (rows_of roll.old)) line.now) (or_refused outcome_of result) (state_by self.new (rows_of roll.new)) }
+    // Answers a query, or tells its refusal. It is a call of its own, so that an edit does not pay for the memory of an answer.
+    #[inline(never)]
+    fn ask(&mut self, rows: &[Row], asked: &Asked) -> Outcome
+        ensures { Leads our_dial (state_by self.old rows.now) (ask_of asked.now) (outcome_of result) (state_by self.new rows.now) }
     {
-        match Command::read(line)? {
-            Command::Edit { place, row } => roll.edit(place, &row).map(|()| Outcome::Edited),
-            Command::Ask(asked) => self.answer(roll.rows(), &asked).map(Outcome::Answered),
+        match self.answer(rows, asked) {
+            Ok(answer) => Outcome::Answered(answer),
+            Err(refusal) => Outcome::Refused(refusal),
         }
     }
 
@@ -94,6 +106,13 @@ impl<'t> Curator<'t> {
         ensures outcome { outcome_of result ≡ outcome our_dial (state_by self.old (rows_of roll.old)) (read_line (length (rows_of roll.old)) line.now) }
         ensures after { state_by self.new (rows_of roll.new) ≡ step our_dial (state_by self.old (rows_of roll.old)) (read_line (length (rows_of roll.old)) line.now) (outcome_of result) }
     {
-        self.take(roll, line).unwrap_or_else(Outcome::Refused)
+        let command = match Command::read(line) {
+            Ok(command) => command,
+            Err(refusal) => return Outcome::Refused(refusal),
+        };
+        match command {
+            Command::Edit { place, row } => edit(roll, place, &row),
+            Command::Ask(asked) => self.ask(roll.rows(), &asked),
+        }
     }
 }

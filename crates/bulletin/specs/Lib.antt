@@ -1,3 +1,4 @@
+pub mod Released
 pub mod Printed
 pub mod Lines
 pub mod Distance

@@ -6,10 +6,12 @@ ghost use Rattle.bulletin.specs.Statements.{HonestError, Tails};
 
 mod lines;
 mod printed;
+mod released;
 mod tail;
 
 pub use lines::{Answer, RefusedLine, RefusedOpening};
 pub use printed::Printed;
+pub use released::AsReleased;
 pub use tail::{Share, Tail, heading, tails};
 
 // Of the draws just as many move a number by j places as place j weighs, whatever the count.

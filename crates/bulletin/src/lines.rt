@@ -1,25 +1,25 @@
 // The lines that are printed for a run: answers, refused lines, and an opening that is refused.
 ghost use Rattle.std.specs.Prelude.{Some, map};
-ghost use Rattle.noise.specs.Release.{released_number};
 ghost use Rattle.bulletin.specs.Lines.{answer_text, numbers_text, opening_text, refused_text};
 
-use crate::Printed;
+use crate::{AsReleased, Printed};
 use roll::Refusal;
 use std::fmt;
 
 // An answer, as in `0 says 1 2 0 left 0`: what was released from a roll of so many places, and what the analyst's budget then holds.
+// Where no type is named, what was released is given by its numbers.
 #[derive(Clone, Copy)]
-pub struct Answer<'a> {
+pub struct Answer<'a, N = u32> {
     pub analyst: u8,
-    pub released: &'a [Option<u16>],
+    pub released: &'a [N],
     pub left: u8,
     pub places: usize,
 }
 
 // The numbers of an answer, each after a space. An `Answer` keeps both fields apart, so that whoever makes one writes one literal.
 #[derive(Clone, Copy)]
-struct Numbers<'a> {
-    released: &'a [Option<u16>],
+struct Numbers<'a, N> {
+    released: &'a [N],
     places: usize,
 }
 
@@ -31,8 +31,8 @@ pub struct RefusedLine(pub Refusal);
 #[derive(Clone, Copy)]
 pub struct RefusedOpening(pub Refusal);
 
-impl fmt::Display for Answer<'_> {
-    ghost output = { λ a. Some (answer_text a.places a.analyst (map released_number a.released.now) a.left) };
+impl<N: AsReleased> fmt::Display for Answer<'_, N> {
+    ghost output = { λ a. Some (answer_text a.places a.analyst (map N.number a.released.now) a.left) };
 
     fn fmt<W: fmt::Write>(&self, f: &mut fmt::Formatter<W>) -> fmt::Result {
         let analyst = self.analyst;
@@ -45,8 +45,8 @@ impl fmt::Display for Answer<'_> {
     }
 }
 
-impl fmt::Display for Numbers<'_> {
-    ghost output = { λ n. Some (numbers_text n.places (map released_number n.released.now)) };
+impl<N: AsReleased> fmt::Display for Numbers<'_, N> {
+    ghost output = { λ n. Some (numbers_text n.places (map N.number n.released.now)) };
 
     fn fmt<W: fmt::Write>(&self, f: &mut fmt::Formatter<W>) -> fmt::Result {
         for released in self.released {

@@ -1,8 +1,8 @@
 // What is printed for a number released.
 ghost use Rattle.std.specs.Prelude.{◌≡◌, Some};
-ghost use Rattle.noise.specs.Release.{released_number};
 ghost use Rattle.bulletin.specs.Printed.{printed, printed_text, shown};
 
+use crate::AsReleased;
 use std::fmt;
 
 // Numbers released from here on, up to the last place of the ring, stand below nothing.
@@ -24,10 +24,10 @@ fn number_shown(number: u16, places: usize) -> u16
 
 impl Printed {
     // What is printed for what was released from a roll of so many places.
-    pub fn of(released: Option<u16>, places: usize) -> Printed
-        ensures { result ≡ printed places (released_number released) }
+    pub fn of<N: AsReleased>(released: N, places: usize) -> Printed
+        ensures { result ≡ printed places (N.number released) }
     {
-        Printed(released.map(|number| number_shown(number, places)))
+        Printed(released.place().map(|number| number_shown(number, places)))
     }
 }
 

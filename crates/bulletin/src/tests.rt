@@ -6,7 +6,7 @@ use std::fmt::Display;
 use std::process::Abort;
 use std::test::Fail;
 
-// Rolls of 5 and of 32,768 places.
+// Rolls of 5 and of 32,768 places; each place by itself and by its number.
 #[test]
 fn printed_forms(rt: HostRuntime) {
     let cases: [(usize, u16, u16); 14] = [
@@ -27,9 +27,16 @@ fn printed_forms(rt: HostRuntime) {
     ];
     for (places, released, printed) in cases {
         assert_eq!(rt; Printed::of(Some(released), places), Printed(Some(printed)));
+        assert_eq!(rt;
+            Printed::of(u32::from(released), places),
+            Printed(Some(printed))
+        );
     }
     assert_eq!(rt; Printed::of(None, 5), Printed(None));
     assert_eq!(rt; Printed::of(None, 32_768), Printed(None));
+    assert_eq!(rt; Printed::of(65_536, 5), Printed(None));
+    assert_eq!(rt; Printed::of(65_536, 32_768), Printed(None));
+    assert_eq!(rt; Printed::of(70_000, 5), Printed(None));
 }
 
 // Whether a value is written as this text.
@@ -59,6 +66,32 @@ fn lines_of_a_run(rt: HostRuntime) -> Result<(), Fail> {
     shows(&rt, heap, &refused, "refused 19 at 1")?;
     let refused = RefusedOpening(Refusal::RowStatus(7));
     shows(&rt, heap, &refused, "desk refused 2 at 7")
+}
+
+#[test]
+fn answers_by_numbers(rt: HostRuntime) -> Result<(), Fail> {
+    let heap = rt.alloc();
+    let answer: Answer<'_> = Answer {
+        analyst: 0,
+        released: &[1, 2, 65_535],
+        left: 0,
+        places: 5,
+    };
+    shows(&rt, heap, &answer, "0 says 1 2 0 left 0")?;
+    let answer = Answer {
+        analyst: 31,
+        released: &[65_536],
+        left: 20,
+        places: 5,
+    };
+    shows(&rt, heap, &answer, "31 says none left 20")?;
+    let answer = Answer {
+        analyst: 0,
+        released: &[1_u32, 65_536, 70_000],
+        left: 0,
+        places: 5,
+    };
+    shows(&rt, heap, &answer, "0 says 1 none none left 0")
 }
 
 // The shares worked out by hand, and the first count of draws that is rounded up to a hundredth of a per cent.

@@ -18,7 +18,7 @@ pub struct Printer<'a> {
 }
 
 // The line of an answer from a roll of so many places.
-fn line_of(answer: &Given, places: usize) -> Answer<'_>
+fn line_of(answer: &Given, places: usize) -> Answer<'_, Option<u16>>
     ensures { (result.analyst ≡ answer.now.analyst) × (map released_number result.released.now ≡ numbers_of answer.now.released) × (result.left ≡ answer.now.left) × (result.places ≡ places) }
 {
     Answer {

@@ -6,4 +6,4 @@ pub loop-released-preserved : goal.loop-released-preserved
 loop-released-preserved g c plain =
     let before = c.loop-released.invariant plain in
     let one = c.in_ok-write.ensures.writes before.plain refl in
-    put_number _ _ _ _ _ _ _ _ c.loop-released-test.true c.of-printed.ensures before one
+    put_number _ _ _ _ _ _ _ _ _ _ c.loop-released-test.true c.released-item.is c.of-printed.ensures before one

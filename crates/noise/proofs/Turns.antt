@@ -1,8 +1,8 @@
 -- What the code does with one word, and with the words of one cell, gives the number released.
-use Rattle.std.proofs.Common.{◌≡◌, ℕ, ◌+◌, ◌%◌, ◌<◌, ◌≤◌, Bool, true, false, cond, List, length, Some, None, sym, refl, ap, ◌∙◌, mod-lt, arith, lit<}
+use Rattle.std.proofs.Common.{◌≡◌, ℕ, ◌+◌, ◌%◌, ◌<◌, ◌≤◌, Bool, true, false, cond, List, length, Some, None, sym, refl, ap, ◌∙◌, mod-lt, arith, lit<, nat_le}
 use Rattle.std.proofs.lemmas.Bool.{cond-true, lt-ltb, le-leb}
 use Rattle.std.proofs.lemmas.Bool.Decides.{nat_tests}
-use Rattle.std.proofs.lemmas.Option.{same_Some}
+use Rattle.std.proofs.lemmas.Option.{none-some, same_Some}
 use Rattle.roll.specs.Numbers.{total}
 use Rattle.weights.specs.Ring.{offset_of, our_weights, our_offset}
 use Rattle.weights.proofs.Ours.{our_places, our_sum}
@@ -57,6 +57,11 @@ passed false x y e = refl
 pub from_four : (c : ℕ) (bytes : List ℕ) (a : ℕ) → 32 ≤ length bytes → a ≡ released our_dial c (first_words 4 bytes) → Some a ≡ our_release c bytes
 from_four c bytes a h e = ap Some e ∙ sym (cond-true _ _ _ (le-leb 32 (length bytes) h))
 
--- what is released from four words is the number released
-pub as_four : (c : ℕ) (bytes : List ℕ) (a : ℕ) → 32 ≤ length bytes → Some a ≡ our_release c bytes → a ≡ released our_dial c (first_words 4 bytes)
-as_four c bytes a h e = same_Some a _ (e ∙ cond-true _ _ _ (le-leb 32 (length bytes) h))
+-- what is chosen, where it is something, is what there is to choose
+chosen : (b : Bool) (x a : ℕ) → Some a ≡ cond b (Some x) None → a ≡ x
+chosen true x a e = same_Some a x e
+chosen false x a e = absurd (none-some a (sym e))
+
+-- what is released for a cell is the number released from its first four words
+pub as_four : (c : ℕ) (bytes : List ℕ) (a : ℕ) → Some a ≡ our_release c bytes → a ≡ released our_dial c (first_words 4 bytes)
+as_four c bytes a e = chosen (nat_le 32 (length bytes)) _ a e

@@ -26,7 +26,7 @@ loop-count-preserved c =
     let number = c.in_ok-release.field-0 in
     let gave : c.release.result ≡ Some number = search rules in
     let pushed : listed c.push.new.self ≡ before ++ number ∷ [] = search rules in (
-      cell_more before (listed c.push.new.self) number pushed first second (as_four _ _ _ (omega arith) (ap (option_map released_number) (sym gave) ∙ c.release.ensures)) c.loop-count.invariant.0,
+      cell_more before (listed c.push.new.self) number pushed first second (as_four _ _ _ (ap (option_map released_number) (sym gave) ∙ c.release.ensures)) c.loop-count.invariant.0,
       omega (arith, ap length pushed, length-append before (number ∷ []), ap length first, c.loop-count.invariant.1),
     )
 
